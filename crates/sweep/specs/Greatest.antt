@@ -1,0 +1,41 @@
+-- The greatest lasting set: by its property, and as a list that computes. Assumes nothing.
+use Prim.Native.Nat.{ℕ, zero, suc}
+use mathlib.Core.Bool.{Bool, true, false, not, _&&_, _||_}
+use mathlib.Core.List.{List, map}
+use mathlib.Core.Path.{_≡_}
+use lib.ListN.{length, getD, replicate}
+use Rattle.std.specs.Iters.{counting}
+use Rattle.plant.specs.Meaning.{Meaning, states, settings}
+use Rattle.plant.specs.Lasting.{Lasting}
+use Rattle.plant.specs.Bounded.{all-below, any-below}
+
+-- the set of the states whose flag is up
+abbrev pub held-in : List Bool → ℕ → Bool
+held-in held s = getD held s false
+
+-- the flags of the greatest lasting set: it is lasting, and has every state of each other lasting set
+pub record Greatest (m : Meaning) (held : List Bool) : Type 0 where
+  pub size : length held ≡ states m
+  pub lasts : Lasting m (held-in held)
+  pub all : (L : ℕ → Bool) → Lasting m L → (s : ℕ) → L s ≡ true → held-in held s ≡ true
+
+-- whether setting a is safe in state s and leads only to states of L
+abbrev pub stays : Meaning → (ℕ → Bool) → ℕ → ℕ → Bool
+stays m L s a = m .safe s a && all-below (λ t. not (m .follows s a t) || L t) (states m)
+
+-- whether some setting of state s is safe and leads only to states of L
+abbrev pub can-stay : Meaning → (ℕ → Bool) → ℕ → Bool
+can-stay m L s = any-below (λ a. stays m L s a) (settings m)
+
+-- one sweep: the flags of the states that can stay among those whose flag is up
+abbrev pub swept : Meaning → List Bool → List Bool
+swept m held = map (λ s. held-in held s && can-stay m (held-in held) s) (counting 0 (states m))
+
+-- so many sweeps
+abbrev pub sweeps : Meaning → ℕ → List Bool → List Bool
+sweeps m zero held = held
+sweeps m (suc n) held = sweeps m n (swept m held)
+
+-- the flags of the states that last: as many sweeps as there are states, from all flags up
+abbrev pub lasting-states : Meaning → List Bool
+lasting-states m = sweeps m (states m) (replicate (states m) true)

@@ -1,0 +1,3 @@
+pub mod Greatest
+pub mod Outcome
+pub mod Sweep
