@@ -1,3 +1,4 @@
+pub mod Bits
 pub mod Bounded
 pub mod Lasting
 pub mod Meaning

@@ -3,7 +3,9 @@ ghost use mathlib.Core.Path.{_≡_};
 ghost use mathlib.Core.Bool.{true, false};
 ghost use lib.ListN.{length, getD};
 ghost use Prim.Native.Nat.{ℕ, _<_};
-ghost use Rattle.plant.specs.Meaning.{states, settings};
+ghost use Rattle.std.specs.Orderings.{Decides};
+ghost use Rattle.plant.specs.Meaning.{states};
+ghost use Rattle.plant.specs.Lasting.{Stays};
 ghost use Rattle.sweep.specs.Greatest.{stays, can-stay, held-in};
 ghost use Rattle.sweep.specs.Sweep.{Swept};
 ghost use Rattle.sweep.specs.Outcome.{Flagged};
@@ -15,17 +17,25 @@ pub struct WrongLength {
     pub needed: usize,
 }
 
+// Whether the flag of `state` is up; a state without a flag counts as down.
+fn is_up(held: &[bool], state: u32) -> bool
+    ensures { λ r. ⌜ r ≡ held-in (now (held .entry)) state ⌝ }
+{
+    let place = state as usize;
+    place < held.len() && held[place]
+}
+
 // Whether `setting` is safe in `state` and leads only to states whose flag is up.
 // The plant is asked about a following only where the flag is down.
-fn pair_stays<P: Plant>(plant: &P, held: &[bool], state: u32, setting: u32) -> bool
-    requires { ⌜ length (now held) ≡ states (meaning (now plant)) ⌝ }
-    ensures { λ r. ⌜ r ≡ stays (meaning (now (plant .entry))) (held-in (now (held .entry))) state setting ⌝ }
+pub fn pair_stays<P: Plant>(plant: &P, held: &[bool], state: u32, setting: u32) -> bool
+    ensures value { λ r. ⌜ r ≡ stays (meaning (now (plant .entry))) (held-in (now (held .entry))) state setting ⌝ }
+    ensures in_words { λ r. ⌜ Decides r (Stays (meaning (now (plant .entry))) (held-in (now (held .entry))) state setting) ⌝ }
 {
     if !plant.is_safe(state, setting) {
         return false;
     }
     for t in 0..plant.states() {
-        if !held[t as usize] && plant.follows(state, setting, t) {
+        if !is_up(held, t) && plant.follows(state, setting, t) {
             return false;
         }
     }
@@ -34,7 +44,6 @@ fn pair_stays<P: Plant>(plant: &P, held: &[bool], state: u32, setting: u32) -> b
 
 // Whether some setting of `state` is safe and leads only to states whose flag is up.
 fn state_stays<P: Plant>(plant: &P, held: &[bool], state: u32) -> bool
-    requires { ⌜ length (now held) ≡ states (meaning (now plant)) ⌝ }
     ensures { λ r. ⌜ r ≡ can-stay (meaning (now (plant .entry))) (held-in (now (held .entry))) state ⌝ }
 {
     for a in 0..plant.settings() {

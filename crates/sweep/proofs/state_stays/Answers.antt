@@ -8,7 +8,7 @@ use Rattle.sweep.specs.Greatest.{stays, held-in}
 use Rattle.sweep.proofs.state_stays.Needs as need
 
 pub loop-a-again : need.loop-a-again
-loop-a-again g c = below-more _ _ (c .loop-a .inv) (sym (c .if-pair-stays .ensures tt))
+loop-a-again g c = below-more _ _ (c .loop-a .inv) (sym (c .if-pair-stays .ensures tt .value))
 
 pub returns : need.returns
 returns g c =
@@ -18,4 +18,4 @@ returns g c =
 pub returns-then-pair-stays : need.returns-then-pair-stays
 returns-then-pair-stays g c =
     let m = g .P·Plant .meaning (c .args .plant .now) in
-    sym (any-from-one (stays m (held-in (c .args .held .now)) (c .args .state)) (settings m) (c .loop-a .a) (omega arith) (sym (c .if-pair-stays .ensures tt)))
+    sym (any-from-one (stays m (held-in (c .args .held .now)) (c .args .state)) (settings m) (c .loop-a .a) (omega arith) (sym (c .if-pair-stays .ensures tt .value)))
