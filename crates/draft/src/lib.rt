@@ -8,6 +8,8 @@ mod listing;
 mod rows;
 
 pub use fault::DraftFault;
+pub use fault::DraftFaultDebug;
+pub use fault::DraftFaultPartialEq;
 pub use fault::DraftFaultFromWrongLength;
 use listing::write_rules;
 use plant::Plant;

@@ -1,19 +1,34 @@
 // Drive rules: what a rule is, and whether a setting fits a list of them.
 ghost use mathlib.Core.Path.{_≡_};
 ghost use Prim.Native.Nat.{_≤_, _<_};
+ghost use Rattle.std.specs.declared.option.Option.the-variants.{Some};
 ghost use Rattle.plant.specs.Meaning.{most-lines, most-bits};
 ghost use Rattle.std.specs.Orderings.{Decides};
 ghost use Rattle.plant.specs.Bits.{bit};
+ghost use Rattle.rules.specs.Shown.{rule-line};
 ghost use Rattle.rules.specs.Fitting.{in-range, applies, breaks, fits, Fits};
 use plant::Plant;
+use std::fmt;
 
 // In `state`, if the lines below `line` are set as `prefix`, then `line` has `value`.
-#[derive(Clone, Copy, PartialEq, Eq, Debug)]
+#[derive(Clone, Copy, PartialEq, Eq, Default, Debug)]
 pub struct Rule {
     pub state: u8,
     pub line: u8,
     pub prefix: u8,
     pub value: bool,
+}
+
+pub impl fmt::Display for Rule as RuleDisplay {
+    ghost shown = { λ r. Some (rule-line r) };
+
+    fn fmt<W: fmt::Write>(&self, f: &mut fmt::Formatter<W>) -> fmt::Result {
+        let state = self.state;
+        let line = self.line;
+        let prefix = self.prefix;
+        let value = self.value as u8;
+        write!(f, "state {state} line {line} prefix {prefix} value {value}")
+    }
 }
 
 // Whether the line is on in the setting.

@@ -1,0 +1,5 @@
+pub mod Entries
+pub mod Faults
+pub mod Outcome
+pub mod Sound
+pub mod Table
