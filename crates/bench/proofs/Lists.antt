@@ -1,18 +1,14 @@
 -- Tests over lists, in words. Assumes nothing.
-use Prim.Native.Nat.{ℕ, zero, suc, _+_, _<_}
+use Prim.Native.Nat.{ℕ, suc, _<_}
 use native.Mathlib.Omega.{arith}
 use lib.Dec.{eqb}
 use lib.ListN.{length, getD}
 use mathlib.Core.Bool.{Bool, true, false, _&&_, _||_}
 use mathlib.Core.List.{List, [], _∷_, List·Memᴰ, List·Memᴰ·head, List·Memᴰ·tail, List·Memᴰ·not-nil, List·Memᴰ·cases-cons}
 use mathlib.Core.Logic.{⊎-elim}
-use mathlib.Core.Path.{_≡_, refl, sym, ap, subst, _∙_}
+use mathlib.Core.Path.{_≡_, refl, sym, ap, subst}
 use Rattle.std.specs.Orderings.{Decides}
-use Rattle.std.specs.Places.{At, Some-of}
-use Rattle.std.proofs.shelf.Elements.{has-from-contains}
 use Rattle.std.proofs.shelf.Tests.{and-from, and-parts, or-cases, or-left, or-right, false≢true, eqb-true, eq-eqb}
-use Rattle.std.proofs.shelf.Ways.{same-from-decides, decides-eqb, decides-like}
-use Rattle.plant.specs.Meaning.{Meaning}
 use Rattle.bench.specs.Entries.{all-of}
 use Rattle.bench.specs.Table.{some-of, leaves, goes, table-meaning, Table-words}
 use Rattle.bench.specs.declared.entry.Move.{Move}
@@ -23,70 +19,53 @@ all-from-places p [] each = refl
 all-from-places p (x ∷ xs) each = and-from (p x) (all-of p xs) (each 0 x (omega arith)) (all-from-places p xs (λ k d lt. each (suc k) d (omega arith)))
 
 -- some element passes the test
-pub some-decides : {X : Type 0} (q : X → Bool) (xs : List X) → Decides (some-of q xs) ((x : X) × List·Memᴰ x xs × (q x ≡ true))
+some-decides : {X : Type 0} (q : X → Bool) (xs : List X) → Decides (some-of q xs) ((x : X) × List·Memᴰ x xs × (q x ≡ true))
 some-decides q [] = (λ e. absurd (false≢true e), λ w. absurd (List·Memᴰ·not-nil (w .1)))
 some-decides {X} q (x ∷ xs) =
-    let rest = some-decides q xs in
-    (λ e. ⊎-elim
-       (λ here. (x, List·Memᴰ·head refl, here))
-       (λ later. let w = rest .0 later in (w .0, List·Memᴰ·tail (w .1), w .2))
-       (or-cases (q x) (some-of q xs) e),
-     λ w. ⊎-elim
-       (λ is. or-left (q x) _ (subst (λ (y : X). q y ≡ true) is (w .2)))
-       (λ later. or-right (q x) _ (rest .1 (w .0, later, w .2)))
-       (List·Memᴰ·cases-cons (w .1)))
+    let rest = some-decides q xs in (
+      λ e. ⊎-elim
+          (λ here. (x, List·Memᴰ·head refl, here))
+          (λ later. let w = rest .0 later in (w .0, List·Memᴰ·tail (w .1), w .2))
+          (or-cases (q x) (some-of q xs) e),
+      λ w. ⊎-elim
+          (λ is. or-left (q x) _ (subst (λ (y : X). q y ≡ true) is (w .2)))
+          (λ later. or-right (q x) _ (rest .1 (w .0, later, w .2)))
+          (List·Memᴰ·cases-cons (w .1)),
+    )
 
 -- a test for one element asks whether the list has it
-pub one-decides : {X : Type 0} (q : X → Bool) (x : X) → ((y : X) → Decides (q y) (y ≡ x)) → (xs : List X) → Decides (some-of q xs) (List·Memᴰ x xs)
+one-decides : {X : Type 0} (q : X → Bool) (x : X) → ((y : X) → Decides (q y) (y ≡ x)) → (xs : List X) → Decides (some-of q xs) (List·Memᴰ x xs)
 one-decides {X} q x is xs =
-    let d = some-decides q xs in
-    (λ e. let w = d .0 e in subst (λ (y : X). List·Memᴰ y xs) (is (w .0) .0 (w .2)) (w .1),
-     λ here. d .1 (x, here, is x .1 refl))
+    let d = some-decides q xs in (
+      λ e. let w = d .0 e in subst (λ (y : X). List·Memᴰ y xs) (is (w .0) .0 (w .2)) (w .1),
+      λ here. d .1 (x, here, is x .1 refl),
+    )
 
--- an element of the list stands at some place
-mem-has : {X : Type 0} (x : X) (xs : List X) → List·Memᴰ x xs → (k : ℕ) × (k < length xs) × At (λ y. y ≡ x) xs k
-mem-has x [] here = absurd (List·Memᴰ·not-nil here)
-mem-has x (y ∷ xs) here =
-    ⊎-elim
-    (λ is. (0, omega arith, λ d. sym is))
-    (λ later. let w = mem-has x xs later in (suc (w .0), omega (arith, w .1), w .2))
-    (List·Memᴰ·cases-cons here)
-
-has-mem : {X : Type 0} (x : X) (xs : List X) (k : ℕ) → k < length xs → At (λ y. y ≡ x) xs k → List·Memᴰ x xs
-has-mem x [] k lt here = absurd (omega arith)
-has-mem x (y ∷ xs) zero lt here = List·Memᴰ·head (sym (here x))
-has-mem x (y ∷ xs) (suc k) lt here = List·Memᴰ·tail (has-mem x xs k (omega arith) here)
-
--- what `contains` answers
-pub contained : {X : Type 0} (q : X → Bool) (x : X) → ((y : X) → Decides (q y) (y ≡ x)) → (xs : List X) (r : Bool) → Some-of (λ y t. Decides t (y ≡ x)) xs r → r ≡ some-of q xs
-contained q x is xs r found =
-    same-from-decides r (some-of q xs)
-    (decides-like r (λ w. has-mem x xs (w .0) (w .1) (w .2)) (λ here. mem-has x xs here) (has-from-contains xs x r found))
-    (one-decides q x is xs)
-
-pub start-test : (t y : ℕ) → Decides (eqb t y) (y ≡ t)
+start-test : (t y : ℕ) → Decides (eqb t y) (y ≡ t)
 start-test t y = (λ e. sym (eqb-true t y e), λ e. eq-eqb t y (sym e))
 
-pub move-test : (s a t : ℕ) (v : Move) → Decides (goes s a t v) (v ≡ record { from = s; setting = a; to = t })
-move-test s a t v =
-    (λ e.
-       let ends = and-parts _ _ e in
-       let is = and-parts _ _ (ends .0) in
-       same-move v (eqb-true _ _ (is .0)) (eqb-true _ _ (is .1)) (eqb-true _ _ (ends .1)),
-     λ e. and-from _ _ (and-from _ _ (eq-eqb _ _ (ap (λ (x : Move). x .from) e)) (eq-eqb _ _ (ap (λ (x : Move). x .setting) e))) (eq-eqb _ _ (ap (λ (x : Move). x .to) e)))
+move-test : (s a t : ℕ) (v : Move) → Decides (goes s a t v) (v ≡ record { from = s; setting = a; to = t })
+move-test s a t v = (
+  λ e.
+      let ends = and-parts _ _ e in
+      let is = and-parts _ _ (ends .0) in
+      same-move v (eqb-true _ _ (is .0)) (eqb-true _ _ (is .1)) (eqb-true _ _ (ends .1)),
+  λ e. and-from _ _ (and-from _ _ (eq-eqb _ _ (ap (λ (x : Move). x .from) e)) (eq-eqb _ _ (ap (λ (x : Move). x .setting) e))) (eq-eqb _ _ (ap (λ (x : Move). x .to) e)),
+)
   where
     same-move : (v : Move) → v .from ≡ s → v .setting ≡ a → v .to ≡ t → v ≡ record { from = s; setting = a; to = t }
     same-move v p q r = λ i. record { from = p i; setting = q i; to = r i }
 
 -- a pair has a move where some state follows it
 safe-words : (s a : ℕ) (moves : List Move) → Decides (some-of (leaves s a) moves) ((t : ℕ) × (some-of (goes s a t) moves ≡ true))
-safe-words s a moves =
-    (λ e.
-       let w = some-decides (leaves s a) moves .0 e in
-       (w .0 .to, some-decides (goes s a (w .0 .to)) moves .1 (w .0, w .1, and-from _ _ (w .2) (eq-eqb _ _ refl))),
-     λ h.
-       let w = some-decides (goes s a (h .0)) moves .0 (h .1) in
-       some-decides (leaves s a) moves .1 (w .0, w .1, and-parts _ _ (w .2) .0))
+safe-words s a moves = (
+  λ e.
+      let w = some-decides (leaves s a) moves .0 e in
+      (w .0 .to, some-decides (goes s a (w .0 .to)) moves .1 (w .0, w .1, and-from _ _ (w .2) (eq-eqb _ _ refl))),
+  λ h.
+      let w = some-decides (goes s a (h .0)) moves .0 (h .1) in
+      some-decides (leaves s a) moves .1 (w .0, w .1, and-parts _ _ (w .2) .0),
+)
 
 pub table-words : (b n : ℕ) (starts : List ℕ) (moves : List Move) → Table-words b n starts moves (table-meaning b n starts moves)
 table-words b n starts moves = record {

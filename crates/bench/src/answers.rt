@@ -1,8 +1,8 @@
 // The bench table's five answers.
 ghost use mathlib.Core.Bool.{Bool};
 ghost use mathlib.Core.Path.{_≡_};
+ghost use lib.Dec.{eqb};
 ghost use Rattle.std.specs.Of.Vec.{vec-items};
-ghost use Rattle.bench.specs.declared.entry.Move.{Move};
 ghost use Rattle.bench.specs.Outcome.{bench-meaning};
 ghost use Rattle.bench.specs.Sound.{table-within};
 ghost use Rattle.bench.specs.Table.{leaves, goes, some-of};
@@ -10,12 +10,26 @@ use crate::entry::Move;
 use crate::table::BenchTable;
 use plant::Plant;
 
-// A question about a single move.
-trait MoveTest {
-    ghost passing: { Self → Move → Bool };
+// A question about a single entry of a list.
+trait EntryTest<E> {
+    ghost passing: { Self → E → Bool };
 
-    fn passes(&self, m: &Move) -> bool
-        ensures { λ r. ⌜ r ≡ passing (now (self .entry)) (now (m .entry)) ⌝ };
+    fn passes(&self, entry: &E) -> bool
+        ensures { λ r. ⌜ r ≡ passing (now (self .entry)) (now (entry .entry)) ⌝ };
+}
+
+// Is the start this state?
+#[derive(Drop)]
+struct Starts {
+    state: u32,
+}
+
+impl EntryTest<u32> for Starts as StartsTest {
+    ghost passing = { λ x. eqb (x .state) };
+
+    fn passes(&self, entry: &u32) -> bool {
+        self.state == *entry
+    }
 }
 
 // Does the move leave this state by this setting?
@@ -25,11 +39,11 @@ struct Leaves {
     setting: u32,
 }
 
-impl MoveTest for Leaves as LeavesTest {
+impl EntryTest<Move> for Leaves as LeavesTest {
     ghost passing = { λ x. leaves (x .state) (x .setting) };
 
-    fn passes(&self, m: &Move) -> bool {
-        m.from == self.state && m.setting == self.setting
+    fn passes(&self, entry: &Move) -> bool {
+        entry.from == self.state && entry.setting == self.setting
     }
 }
 
@@ -41,20 +55,20 @@ struct Goes {
     next: u32,
 }
 
-impl MoveTest for Goes as GoesTest {
+impl EntryTest<Move> for Goes as GoesTest {
     ghost passing = { λ x. goes (x .state) (x .setting) (x .next) };
 
-    fn passes(&self, m: &Move) -> bool {
-        m.from == self.state && m.setting == self.setting && m.to == self.next
+    fn passes(&self, entry: &Move) -> bool {
+        entry.from == self.state && entry.setting == self.setting && entry.to == self.next
     }
 }
 
-// Whether some move passes the test.
-fn some_move<T: MoveTest>(moves: &[Move], test: &T) -> bool
-    ensures { λ r. ⌜ r ≡ some-of (passing (now (test .entry))) (now (moves .entry)) ⌝ }
+// Whether some entry passes the test.
+fn some_entry<E, T: EntryTest<E>>(entries: &[E], test: &T) -> bool
+    ensures { λ r. ⌜ r ≡ some-of (passing (now (test .entry))) (now (entries .entry)) ⌝ }
 {
-    for m in moves {
-        if test.passes(m) {
+    for entry in entries {
+        if test.passes(entry) {
             return true;
         }
     }
@@ -75,15 +89,15 @@ pub impl Plant for BenchTable as BenchTablePlant {
     }
 
     fn is_start(&self, state: u32) -> bool {
-        self.starts.contains(&state)
+        some_entry(self.starts.as_slice(), &Starts { state })
     }
 
     fn is_safe(&self, state: u32, setting: u32) -> bool {
-        some_move(self.moves.as_slice(), &Leaves { state, setting })
+        some_entry(self.moves.as_slice(), &Leaves { state, setting })
     }
 
     fn follows(&self, state: u32, setting: u32, next: u32) -> bool {
-        some_move(
+        some_entry(
             self.moves.as_slice(),
             &Goes {
                 state,

@@ -3,10 +3,10 @@ ghost use mathlib.Core.Path.{_≡_};
 ghost use Rattle.std.specs.Of.Vec.{vec-items};
 ghost use Rattle.bench.specs.Entries.{sizes-fit};
 ghost use Rattle.bench.specs.Outcome.{Built};
-use crate::entry::first_misfit;
 use crate::entry::Move;
 use crate::entry::MoveEntry;
 use crate::entry::StartEntry;
+use crate::entry::first_misfit;
 use crate::fault::TableFault;
 use crate::table::BenchTable;
 use plant::MAX_LINES;
@@ -20,7 +20,12 @@ fn sizes_fit(state_bits: u32, lines: u32) -> bool
 
 impl BenchTable {
     // The table of these starts and moves; a size out of its limits is refused first, then the first entry beyond the sizes.
-    pub fn new(state_bits: u32, lines: u32, starts: Vec<u32>, moves: Vec<Move>) -> Result<BenchTable, TableFault>
+    pub fn new(
+        state_bits: u32,
+        lines: u32,
+        starts: Vec<u32>,
+        moves: Vec<Move>,
+    ) -> Result<BenchTable, TableFault>
         ensures { λ r. ⌜ Built «state_bits» lines (vec-items starts) (vec-items moves) r ⌝ }
     {
         if !sizes_fit(state_bits, lines) {

@@ -22,6 +22,10 @@ impl TableFault {
             TableFault::EntryBeyond { index } => (12, *index),
         };
         let layer = Layer::Plant;
-        Refusal { number, place, layer }
+        Refusal {
+            number,
+            place,
+            layer,
+        }
     }
 }

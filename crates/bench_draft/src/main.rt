@@ -13,7 +13,9 @@ use std::io;
 
 // Each table has one state bit and one line, and starts in state 0.
 const BITS: u32 = 1;
+
 const LINES: u32 = 1;
+
 const START: u32 = 0;
 
 // From state 0 to state 1 and back, with the line off.
@@ -22,6 +24,7 @@ const THERE: Move = Move {
     setting: 0,
     to: 1,
 };
+
 const BACK: Move = Move {
     from: 1,
     setting: 0,
@@ -51,11 +54,17 @@ fn print_draft(rt: &LibcRuntime, table: &BenchTable) -> io::Result<()> {
     match answer {
         Ok(count) => {
             print_rules(rt, &rules, count)?;
-            println!(rt, "The draft went through: every start can be kept safe for ever, by {count} rules.")
+            println!(
+                rt,
+                "The draft went through: every start can be kept safe for ever, by {count} rules."
+            )
         }
         Err(fault) => {
             rt.println(fault.refusal())?;
-            println!(rt, "The draft was turned away: no rule at all keeps that start safe for ever.")
+            println!(
+                rt,
+                "The draft was turned away: no rule at all keeps that start safe for ever."
+            )
         }
     }
 }

@@ -62,9 +62,10 @@ module _ (m : Meaning) (within : Within m) where
   -- open are the settings that are safe and lead only to states that last
   pub open-decides : (s a : ℕ) → Decides (open-in (rows-of m) s a) (Stays m (held-in held) s a)
   open-decides s a =
-      let d = stays-decides m within (held-in held) s a in
-      (λ e. d .0 (sym (open-stays s a (open-state s a e) (open-setting s a e)) ∙ e),
-       λ h. open-stays s a (within .safe-state s a (h .0)) (within .safe-setting s a (h .0)) ∙ d .1 h)
+      let d = stays-decides m within (held-in held) s a in (
+        λ e. d .0 (sym (open-stays s a (open-state s a e) (open-setting s a e)) ∙ e),
+        λ h. open-stays s a (within .safe-state s a (h .0)) (within .safe-setting s a (h .0)) ∙ d .1 h,
+      )
 
   rows-safe : Safe-assignment m (open-in (rows-of m))
   rows-safe = record {
@@ -93,9 +94,10 @@ module _ (m : Meaning) (within : Within m) where
   rows-largest = record {
     sound = rows-safe;
     all = λ K safe s a e.
-        open-decides s a .1
-        (safe .safe s a e,
-         λ t f. let b = safe .again s a t e f in great .all (states-of K) (states-last K safe) t (state-of K safe t (b .0) (b .1)));
+        open-decides s a .1 (
+          safe .safe s a e,
+          λ t f. let b = safe .again s a t e f in great .all (states-of K) (states-last K safe) t (state-of K safe t (b .0) (b .1)),
+        );
   }
 
   pub rows-filled : Filled m (rows-of m)

@@ -27,7 +27,11 @@ impl DraftFault {
             DraftFault::LostStart { state } => (10, *state as usize),
         };
         let layer = Layer::Draft;
-        Refusal { number, place, layer }
+        Refusal {
+            number,
+            place,
+            layer,
+        }
     }
 }
 

@@ -7,12 +7,12 @@ ghost use Rattle.std.specs.Options.{Cases as BySome};
 ghost use Rattle.plant.specs.Meaning.{states, most-lines};
 ghost use Rattle.draft.specs.Rows.{row-from, rows-from, rows-of};
 ghost use Rattle.draft.specs.Starts.{Lost, All-open};
-use plant::Plant;
 use plant::MAX_STATES;
+use plant::Plant;
 use plant::Row;
+use sweep::WrongLength;
 use sweep::lasting_states;
 use sweep::pair_stays;
-use sweep::WrongLength;
 
 // The row with one setting more open, which lies above those that are.
 fn with_open(row: Row, setting: u32) -> Row

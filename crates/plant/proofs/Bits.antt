@@ -82,8 +82,8 @@ bit-pack p (suc n) i lt =
     top : i ≡ n → bit (pack p (suc n)) i ≡ p i
     top e =
         let at-n : bit (pack p (suc n)) n ≡ p n =
-            ap (λ z. eqb ((z + pack p n) / 2 ^ n % 2) 1) (shifted (p n)) ∙
-              ap (λ z. eqb (z % 2) 1) (digits-div (digit (p n)) (pack-small p n)) ∙ one-digit (p n) in
+        ap (λ z. eqb ((z + pack p n) / 2 ^ n % 2) 1) (shifted (p n)) ∙
+        ap (λ z. eqb (z % 2) 1) (digits-div (digit (p n)) (pack-small p n)) ∙ one-digit (p n) in
         subst (λ k. bit (pack p (suc n)) k ≡ p k) (sym e) at-n
 
     below : (i ≡ n → ⊥) → bit (pack p n) i ≡ p i → bit (pack p (suc n)) i ≡ p i
@@ -91,11 +91,11 @@ bit-pack p (suc n) i lt =
         let above : ℕ = n - suc i in
         let split : 2 ^ n ≡ 2 ^ above * 2 ^ suc i = ap (λ k. 2 ^ k) (let q : n ≡ above + suc i = omega arith in q) ∙ pow-add 2 above (suc i) in
         let whole : cond (p n) (2 ^ n) 0 ≡ (digit (p n) * 2 ^ above) * 2 ^ suc i =
-            shifted (p n) ∙ ap (λ k. digit (p n) * k) split ∙ sym (mul-assoc (digit (p n)) (2 ^ above) (2 ^ suc i)) in
+        shifted (p n) ∙ ap (λ k. digit (p n) * k) split ∙ sym (mul-assoc (digit (p n)) (2 ^ above) (2 ^ suc i)) in
         let low : pack p (suc n) % 2 ^ suc i ≡ pack p n % 2 ^ suc i =
-            ap (λ z. (z + pack p n) % 2 ^ suc i) whole ∙
-              ap (λ z. z % 2 ^ suc i) (add-comm ((digit (p n) * 2 ^ above) * 2 ^ suc i) (pack p n)) ∙
-              add-mul-mod-self-right (pack p n) (digit (p n) * 2 ^ above) (2 ^ suc i) in
+        ap (λ z. (z + pack p n) % 2 ^ suc i) whole ∙
+        ap (λ z. z % 2 ^ suc i) (add-comm ((digit (p n) * 2 ^ above) * 2 ^ suc i) (pack p n)) ∙
+        add-mul-mod-self-right (pack p n) (digit (p n) * 2 ^ above) (2 ^ suc i) in
         sym (bit-low (pack p (suc n)) i) ∙ ap (λ z. bit z i) low ∙ bit-low (pack p n) i ∙ before
 
 -- a packed number that is not 0 has a bit

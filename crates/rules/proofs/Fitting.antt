@@ -20,11 +20,14 @@ same-decides false false = (λ _. refl, λ _. refl)
 module _ (b n s a : ℕ) where
   -- a rule that is not broken is obeyed, and the other way round
   pub unbroken-decides : (r : Rule) → Decides (not (breaks b n r s a)) (Obeys b n s a r)
-  unbroken-decides r =
-      (λ e. record { value = λ st ln pf is begins.
-           let unbroken = not-true (breaks b n r s a) e in
-           value-if-unbroken st ln pf is begins unbroken (same (bit a (r .line)) (r .value)) refl },
-       λ o. not-from-false (breaks b n r s a) (unbroken o (breaks b n r s a) refl))
+  unbroken-decides r = (
+    λ e. record {
+      value = λ st ln pf is begins.
+          let unbroken = not-true (breaks b n r s a) e in
+          value-if-unbroken st ln pf is begins unbroken (same (bit a (r .line)) (r .value)) refl;
+    },
+    λ o. not-from-false (breaks b n r s a) (unbroken o (breaks b n r s a) refl),
+  )
     where
       range : r .state < 2 ^ b → r .line < n → r .prefix < 2 ^ r .line → in-range b n r ≡ true
       range st ln pf =
@@ -34,8 +37,8 @@ module _ (b n s a : ℕ) where
       value-if-unbroken st ln pf is begins whole true e = same-decides (bit a (r .line)) (r .value) .0 e
       value-if-unbroken st ln pf is begins whole false e =
           absurd (both-ways (breaks b n r s a) whole
-            (and-from _ _ (range st ln pf)
-              (and-from _ _ (and-from _ _ (eq-eqb (r .state) s is) (eq-eqb (a % 2 ^ r .line) (r .prefix) begins)) (not-from-false _ e))))
+          (and-from _ _ (range st ln pf)
+          (and-from _ _ (and-from _ _ (eq-eqb (r .state) s is) (eq-eqb (a % 2 ^ r .line) (r .prefix) begins)) (not-from-false _ e))))
 
       unbroken : Obeys b n s a r → (t : Bool) → breaks b n r s a ≡ t → breaks b n r s a ≡ false
       unbroken o false e = e
@@ -52,14 +55,15 @@ module _ (b n s a : ℕ) where
   fits-decides [] = (λ _ r here. absurd (List·Memᴰ·not-nil here), λ _. refl)
   fits-decides (r ∷ rs) =
       let first = unbroken-decides r in
-      let rest = fits-decides rs in
-      (λ e q here.
-         let parts = and-parts (not (breaks b n r s a)) (fits b n rs s a) e in
-         ⊎-elim
-         (λ is. subst (λ x. Obeys b n s a x) (sym is) (first .0 (parts .0)))
-         (λ later. rest .0 (parts .1) q later)
-         (List·Memᴰ·cases-cons here),
-       λ all. and-from _ _ (first .1 (all r (List·Memᴰ·head refl))) (rest .1 (λ q here. all q (List·Memᴰ·tail here))))
+      let rest = fits-decides rs in (
+        λ e q here.
+            let parts = and-parts (not (breaks b n r s a)) (fits b n rs s a) e in
+            ⊎-elim
+            (λ is. subst (λ x. Obeys b n s a x) (sym is) (first .0 (parts .0)))
+            (λ later. rest .0 (parts .1) q later)
+            (List·Memᴰ·cases-cons here),
+        λ all. and-from _ _ (first .1 (all r (List·Memᴰ·head refl))) (rest .1 (λ q here. all q (List·Memᴰ·tail here))),
+      )
 
   -- a rule that is broken, with the rules after it
   pub broken-misfits : (r : Rule) (rs : List Rule) → breaks b n r s a ≡ true → fits b n (r ∷ rs) s a ≡ false

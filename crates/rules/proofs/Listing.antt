@@ -60,10 +60,10 @@ ascends-append xs ys up-x up-y between i k d lt within =
     ⊎-elim
     (λ k-in. subst₂ Before (sym (left i (omega arith))) (sym (left k k-in)) (up-x i k d lt k-in))
     (λ k-out.
-       ⊎-elim
-       (λ i-in. subst₂ Before (sym (left i i-in)) (sym (right k k-out)) (between _ _ (in-list xs i d i-in) (in-list ys (k - length xs) d (past k within k-out))))
-       (λ i-out. subst₂ Before (sym (right i i-out)) (sym (right k k-out)) (up-y (i - length xs) (k - length xs) d (omega arith) (past k within k-out)))
-       (cases-lt i (length xs)))
+    ⊎-elim
+    (λ i-in. subst₂ Before (sym (left i i-in)) (sym (right k k-out)) (between _ _ (in-list xs i d i-in) (in-list ys (k - length xs) d (past k within k-out))))
+    (λ i-out. subst₂ Before (sym (right i i-out)) (sym (right k k-out)) (up-y (i - length xs) (k - length xs) d (omega arith) (past k within k-out)))
+    (cases-lt i (length xs)))
     (cases-lt k (length xs))
   where
     left : (j : ℕ) → j < length xs → getD (xs ++ ys) j d ≡ getD xs j d
@@ -145,13 +145,14 @@ module _ (n : ℕ) (rows : List ℕ) where
   pub some-open-decides : (s j p : ℕ) (v : Bool) → Decides (some-open n (getD rows s 0) j p v) (Some-open n rows s j p v)
   some-open-decides s j p v =
       let row = getD rows s 0 in
-      let d = decides-any (λ a. bit row a && (eqb (a % 2 ^ j) p && same (bit a j) v)) (2 ^ n) in
-      (λ e.
-         let w = d .0 e in
-         let parts = and-parts _ _ (w .2) in
-         let rest = and-parts _ _ (parts .1) in
-         (w .0, w .1, parts .0, eqb-true _ _ (rest .0), same-decides (bit (w .0) j) v .0 (rest .1)),
-       λ w. d .1 (w .0, w .1, and-from _ _ (w .2) (and-from _ _ (eq-eqb _ _ (w .3)) (same-decides (bit (w .0) j) v .1 (w .4)))))
+      let d = decides-any (λ a. bit row a && (eqb (a % 2 ^ j) p && same (bit a j) v)) (2 ^ n) in (
+        λ e.
+            let w = d .0 e in
+            let parts = and-parts _ _ (w .2) in
+            let rest = and-parts _ _ (parts .1) in
+            (w .0, w .1, parts .0, eqb-true _ _ (rest .0), same-decides (bit (w .0) j) v .0 (rest .1)),
+        λ w. d .1 (w .0, w .1, and-from _ _ (w .2) (and-from _ _ (eq-eqb _ _ (w .3)) (same-decides (bit (w .0) j) v .1 (w .4)))),
+      )
 
   -- which way is open, in words
   way-decides : (s j p : ℕ) (v : Bool) → Decides (way (some-open n (getD rows s 0) j p true) (some-open n (getD rows s 0) j p false) v) (Some-open n rows s j p v)
@@ -166,13 +167,13 @@ module _ (n : ℕ) (rows : List ℕ) where
       let w = chosen-cases on off s j p here in
       let v = w .0 in
       let at-rule : Stands b n rows (rule s j p v) =
-          record {
-            state = st;
-            line = ln;
-            prefix = pf;
-            one-way = way-decides s j p v .0 (w .2);
-            not-other = λ other. both-ways _ (w .3) (way-decides s j p (not v) .1 other);
-          } in
+      record {
+        state = st;
+        line = ln;
+        prefix = pf;
+        one-way = way-decides s j p v .0 (w .2);
+        not-other = λ other. both-ways _ (w .3) (way-decides s j p (not v) .1 other);
+      } in
       subst (λ x. Stands b n rows x) (sym (w .1)) at-rule
 
   rule-at-place : (s j p : ℕ) {r : Rule} → List·Memᴰ r (rule-at n (getD rows s 0) s j p) → (v : Bool) × (r ≡ rule s j p v)
@@ -207,17 +208,17 @@ module _ (n : ℕ) (rows : List ℕ) where
       ascends-concat (λ p. rule-at n (getD rows s 0) s j p) (2 ^ j)
       (λ p _ i k d lt within. let h = chosen-length (some-open n (getD rows s 0) j p true) (some-open n (getD rows s 0) j p false) s j p in absurd (omega arith))
       (λ i k lt _ x y in-x in-y.
-         let u = rule-at-place s j i in-x in
-         let w = rule-at-place s j k in-y in
-         subst₂ Before (sym (u .1)) (sym (w .1)) (inr (refl, inr (refl, lt))))
+      let u = rule-at-place s j i in-x in
+      let w = rule-at-place s j k in-y in
+      subst₂ Before (sym (u .1)) (sym (w .1)) (inr (refl, inr (refl, lt))))
 
   state-ascends : (s : ℕ) → Ascends (rules-of-state n (getD rows s 0) s)
   state-ascends s =
       ascends-concat (of-line s) n (λ j _. line-ascends s j)
       (λ i k lt _ x y in-x in-y.
-         let u = line-place s i in-x in
-         let w = line-place s k in-y in
-         inr (u .0 ∙ sym (w .0), inl (omega (arith, u .1, w .1))))
+      let u = line-place s i in-x in
+      let w = line-place s k in-y in
+      inr (u .0 ∙ sym (w .0), inl (omega (arith, u .1, w .1))))
 
   pub lists-standing : (b : ℕ) → Lists-standing b n rows (rules-of b n rows)
   lists-standing b = record {
@@ -229,7 +230,7 @@ module _ (n : ℕ) (rows : List ℕ) where
     every = λ r st.
         concat-has (λ s. rules-of-state n (getD rows s 0) s) (2 ^ b) (r .state) (st .state)
         (concat-has (of-line (r .state)) n (r .line) (st .line)
-          (concat-has (λ p. rule-at n (getD rows (r .state) 0) (r .state) (r .line) p) (2 ^ r .line) (r .prefix) (st .prefix) (rule-at-has b r st)));
+        (concat-has (λ p. rule-at n (getD rows (r .state) 0) (r .state) (r .line) p) (2 ^ r .line) (r .prefix) (st .prefix) (rule-at-has b r st)));
     ascends =
         ascends-concat (λ s. rules-of-state n (getD rows s 0) s) (2 ^ b) (λ s _. state-ascends s)
         (λ i k lt _ x y in-x in-y. inl (omega (arith, state-place i in-x, state-place k in-y)));

@@ -34,12 +34,14 @@ not-both false false e f = both-ways false refl e
 module _ (b n : ℕ) (rows : List ℕ) (rs : List Rule) (listed : Lists-standing b n rows rs) (s : ℕ) (state : s < 2 ^ b) where
   -- an open setting obeys every rule that stands
   open-obeys : (a : ℕ) → a < 2 ^ n → bit (getD rows s 0) a ≡ true → Fits b n rs s a
-  open-obeys a small is-open r here = record { value = λ st ln pf is begins.
-      let stands = listed .only r here in
-      ⊎-elim
-      (λ e. e)
-      (λ other. absurd (stands .not-other (a, small, subst (λ k. bit (getD rows k 0) a ≡ true) (sym is) is-open, begins, other)))
-      (same-or-other (bit a (r .line)) (r .value)) }
+  open-obeys a small is-open r here = record {
+    value = λ st ln pf is begins.
+        let stands = listed .only r here in
+        ⊎-elim
+        (λ e. e)
+        (λ other. absurd (stands .not-other (a, small, subst (λ k. bit (getD rows k 0) a ≡ true) (sym is) is-open, begins, other)))
+        (same-or-other (bit a (r .line)) (r .value));
+  }
 
   -- some open setting agrees with a on the lines below j
   abbrev Agrees : ℕ → ℕ → Type 0
@@ -51,13 +53,13 @@ module _ (b n : ℕ) (rows : List ℕ) (rs : List Rule) (listed : Lists-standing
       let r : Rule = record { state = s; line = j; prefix = a % 2 ^ j; value = bit (w .0) j } in
       let low : a % 2 ^ j < 2 ^ j = mod-below a (2 ^ j) (pow-pos j) in
       let stands : Stands b n rows r =
-          record {
-            state = state;
-            line = lt;
-            prefix = low;
-            one-way = (w .0, w .1, w .2, w .3, refl);
-            not-other = λ o. none (o .0, o .1, o .2, o .3, o .4 ∙ sym differs);
-          } in
+      record {
+        state = state;
+        line = lt;
+        prefix = low;
+        one-way = (w .0, w .1, w .2, w .3, refl);
+        not-other = λ o. none (o .0, o .1, o .2, o .3, o .4 ∙ sym differs);
+      } in
       not-both (bit a j) (bit (w .0) j) differs (obeys r (listed .every r stands) .value state lt low refl refl)
 
   agrees-more : (a j : ℕ) → Fits b n rs s a → j < n → Agrees a j → Agrees a (suc j)
@@ -83,7 +85,7 @@ module _ (b n : ℕ) (rows : List ℕ) (rs : List Rule) (listed : Lists-standing
       let d = fits-decides b n s a rs in
       same-tests (fits b n rs s a) (bit (getD rows s 0) a)
       (λ e.
-         let w = agrees c c-small c-open a (d .0 e) n (omega arith) in
-         let is : w .0 ≡ a = sym (mod-eq-of-lt (w .1)) ∙ w .3 ∙ mod-eq-of-lt small in
-         subst (λ k. bit (getD rows s 0) k ≡ true) is (w .2))
+      let w = agrees c c-small c-open a (d .0 e) n (omega arith) in
+      let is : w .0 ≡ a = sym (mod-eq-of-lt (w .1)) ∙ w .3 ∙ mod-eq-of-lt small in
+      subst (λ k. bit (getD rows s 0) k ≡ true) is (w .2))
       (λ e. d .1 (open-obeys a small e))

@@ -69,6 +69,20 @@ impl Rule {
     }
 }
 
+// Whether the setting breaks none of the rules in this state.
+fn breaks_none(state_bits: u32, lines: u32, rules: &[Rule], state: u32, setting: u32) -> bool
+    requires { ⌜ «state_bits» ≤ most-bits ⌝ ∗ ⌜ lines ≤ most-lines ⌝ }
+    ensures value { λ r. ⌜ r ≡ fits «state_bits» lines (now (rules .entry)) state setting ⌝ }
+    ensures in_words { λ r. ⌜ Decides r (Fits «state_bits» lines (now (rules .entry)) state setting) ⌝ }
+{
+    for rule in rules {
+        if rule.breaks(state_bits, lines, state, setting) {
+            return false;
+        }
+    }
+    true
+}
+
 // Whether the setting fits: it breaks none of the rules in this state.
 pub fn fits<P: Plant>(plant: &P, rules: &[Rule], state: u32, setting: u32) -> bool
     ensures value { λ r. ⌜ r ≡ fits (meaning (now (plant .entry)) .bits) (meaning (now (plant .entry)) .lines) (now (rules .entry)) state setting ⌝ }
@@ -76,10 +90,5 @@ pub fn fits<P: Plant>(plant: &P, rules: &[Rule], state: u32, setting: u32) -> bo
 {
     let state_bits = plant.state_bits();
     let lines = plant.lines();
-    for rule in rules {
-        if rule.breaks(state_bits, lines, state, setting) {
-            return false;
-        }
-    }
-    true
+    breaks_none(state_bits, lines, rules, state, setting)
 }

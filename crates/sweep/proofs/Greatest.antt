@@ -28,21 +28,21 @@ flag-below (x ∷ flags) (suc k) e = let h = flag-below flags k e in omega arith
 same-flags : (xs ys : List Bool) → length xs ≡ length ys → ((k : ℕ) → held-in xs k ≡ held-in ys k) → xs ≡ ys
 same-flags xs ys size same =
     same-lists xs ys size λ k d lt.
-      getD-default xs k d false lt ∙ same k ∙ getD-default ys k false d (omega arith)
+    getD-default xs k d false lt ∙ same k ∙ getD-default ys k false d (omega arith)
 
 pub greatest-unique : (m : Meaning) (xs ys : List Bool) → Greatest m xs → Greatest m ys → xs ≡ ys
 greatest-unique m xs ys x y =
     same-flags xs ys (x .size ∙ sym (y .size)) λ k.
-      same-tests _ _ (y .all (held-in xs) (x .lasts) k) (x .all (held-in ys) (y .lasts) k)
+    same-tests _ _ (y .all (held-in xs) (x .lasts) k) (x .all (held-in ys) (y .lasts) k)
 
 -- a state from which some setting leads only into the greatest lasting set is in it
 pub greatest-closed : (m : Meaning) (held : List Bool) → Greatest m held → (s a : ℕ) → Stays m (held-in held) s a → held-in held s ≡ true
 greatest-closed m held g s a stays =
     g .all with-s
     (λ k e. ⊎-elim
-       (λ is. subst (λ n. (b : ℕ) × Stays m with-s n b) (sym (eqb-true k s is)) (a, (stays .0, λ t f. or-right (eqb t s) _ (stays .1 t f))))
-       (λ flag. let w = g .lasts k flag in (w .0, (w .1 .0, λ t f. or-right (eqb t s) _ (w .1 .1 t f))))
-       (or-cases (eqb k s) (held-in held k) e))
+    (λ is. subst (λ n. (b : ℕ) × Stays m with-s n b) (sym (eqb-true k s is)) (a, (stays .0, λ t f. or-right (eqb t s) _ (stays .1 t f))))
+    (λ flag. let w = g .lasts k flag in (w .0, (w .1 .0, λ t f. or-right (eqb t s) _ (w .1 .1 t f))))
+    (or-cases (eqb k s) (held-in held k) e))
     s (or-left (eqb s s) _ (eq-eqb s s refl))
   where
     with-s : ℕ → Bool
@@ -67,7 +67,7 @@ module _ (m : Meaning) (within : Within m) where
   swept-keeps held L lasts inside s e =
       let w = lasts s e in
       swept-at held s (within .safe-state s (w .0) (w .1 .0)) ∙
-        and-from _ _ (inside s e) (can-stay-decides m within (held-in held) s .1 (w .0, (w .1 .0, λ t f. inside t (w .1 .1 t f))))
+      and-from _ _ (inside s e) (can-stay-decides m within (held-in held) s .1 (w .0, (w .1 .0, λ t f. inside t (w .1 .1 t f))))
 
   -- flags that a sweep leaves alone are those of a lasting set
   fixed-lasts : (held : List Bool) → length held ≡ states m → swept m held ≡ held → Lasting m (held-in held)
@@ -131,7 +131,7 @@ module _ (m : Meaning) (within : Within m) where
       record {
         size = sweeps-size (states m) all-up size;
         lasts = fixed-lasts m within (lasting-states m) (sweeps-size (states m) all-up size)
-          (sweeps-settle (states m) all-up size (let h = up-replicate (states m) in omega arith));
+            (sweeps-settle (states m) all-up size (let h = up-replicate (states m) in omega arith));
         all = λ L lasts. sweeps-keep m within (states m) all-up L lasts
-          (λ s e. let w = lasts s e in getD-replicate (states m) s true false (within .safe-state s (w .0) (w .1 .0)));
+            (λ s e. let w = lasts s e in getD-replicate (states m) s true false (within .safe-state s (w .0) (w .1 .0)));
       }

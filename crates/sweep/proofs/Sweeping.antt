@@ -58,9 +58,9 @@ module _ (m : Meaning) (within : Within m) (before held : List Bool) (changed : 
     keeps = λ L lasts inside k in-L.
         ⊎-elim
         (λ e. absurd (both-ways _ falls
-           (let w = lasts s (subst (λ n. L n ≡ true) e in-L) in
-            can-stay-decides m within (held-in held) s .1
-            (w .0, (w .1 .0, λ t f. now .keeps L lasts inside t (w .1 .1 t f))))))
+        (let w = lasts s (subst (λ n. L n ≡ true) e in-L) in
+        can-stay-decides m within (held-in held) s .1
+        (w .0, (w .1 .0, λ t f. now .keeps L lasts inside t (w .1 .1 t f))))))
         (λ ne. getD-set-other held s k false false ne ∙ now .keeps L lasts inside k in-L)
         (cases-eq k s);
     no-more = let h = up-lowered held s was in let n = now .no-more in omega arith;

@@ -20,11 +20,11 @@ returns g c =
     let m = g .P·Plant .meaning (c .args .plant .now) in
     let within = g .P·Plant .sound (c .args .plant .now) in
     let great : Greatest m (c .sweep .last .held) =
-        record {
-          size = omega arith;
-          lasts = c .sweep .ensures .settled (c .loop-test .left) .1;
-          all = λ L lasts. c .sweep .ensures .keeps L lasts (c .loop .inv L lasts);
-        } in
+    record {
+      size = omega arith;
+      lasts = c .sweep .ensures .settled (c .loop-test .left) .1;
+      all = λ L lasts. c .sweep .ensures .keeps L lasts (c .loop .inv L lasts);
+    } in
     let right : length (c .args .held .now) ≡ states m = omega arith in
     record {
       refused = λ wrong. absurd (wrong right);

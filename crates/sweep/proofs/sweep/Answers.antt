@@ -17,17 +17,17 @@ loop-s-again g c =
     let s = c .loop-s .s in
     let At : List Bool → Bool → Type 0 = λ flags changed. Sweeping m (c .args .held .now) flags changed (s + 1) in
     elim (c .if-held-s .came) [
-      then-held-s·then-not-state-stays w ↦
-        subst₂ At (sym (w .held-is)) (sym (w .changed-is))
-        (sweeping-lowered m within (c .args .held .now) held (c .loop-s .changed) s (c .loop-s .inv) (w .if-held-s .taken) (sym (w .if-not-state-stays .ensures tt)))
-    | else-held-s w ↦
-        let here : held-in held s ≡ true → can-stay m (held-in held) s ≡ true =
-            elim (w .else-held-s .came) [
-              else-held-s·by·then-held-s·else-not-state-stays v ↦ λ _. sym (v .if-not-state-stays .ensures tt)
+      | then-held-s·then-not-state-stays w ↦
+          subst₂ At (sym (w .held-is)) (sym (w .changed-is))
+          (sweeping-lowered m within (c .args .held .now) held (c .loop-s .changed) s (c .loop-s .inv) (w .if-held-s .taken) (sym (w .if-not-state-stays .ensures tt)))
+      | else-held-s w ↦
+          let here : held-in held s ≡ true → can-stay m (held-in held) s ≡ true =
+          elim (w .else-held-s .came) [
+            | else-held-s·by·then-held-s·else-not-state-stays v ↦ λ _. sym (v .if-not-state-stays .ensures tt)
             | else-held-s·by·else-held-s v ↦ λ flag. absurd (both-ways (held-in held s) (v .if-held-s .left) flag)
-            ] in
-        subst₂ At (sym (w .held-is)) (sym (w .changed-is))
-        (sweeping-kept m within (c .args .held .now) held (c .loop-s .changed) s (c .loop-s .inv) here)
+          ] in
+          subst₂ At (sym (w .held-is)) (sym (w .changed-is))
+          (sweeping-kept m within (c .args .held .now) held (c .loop-s .changed) s (c .loop-s .inv) here)
     ]
 
 pub returns : need.returns

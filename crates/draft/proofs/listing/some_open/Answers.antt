@@ -6,6 +6,7 @@ use mathlib.Core.Path.{_≡_, sym, ap, _∙_}
 use native.Mathlib.Omega.{arith}
 use Rattle.std.proofs.shelf.Tests.{and-from}
 use Rattle.plant.specs.Bits.{bit}
+use Rattle.plant.specs.Meaning.{most-lines}
 use Rattle.plant.proofs.Bounded.{any-from-none, any-from-one}
 use Rattle.rules.specs.Fitting.{same}
 use Rattle.draft.proofs.listing.some_open.Needs as need
@@ -15,13 +16,13 @@ test row j p v a = bit row a && (eqb (a % 2 ^ j) p && same (bit a j) v)
 
 pub has-bit-requires : need.has-bit-requires
 has-bit-requires c κs =
-    let few : 2 ^ c .args .lines ≤ 16 = pow-mono (c .pre .0) in
+    let few : 2 ^ c .args .lines ≤ 2 ^ most-lines = pow-mono (c .pre .0) in
     omega arith
 
 pub returns-then-goes-on : need.returns-then-goes-on
 returns-then-goes-on c =
     sym (any-from-one (test (c .args .row) (c .args .line) (c .args .prefix) (c .args .value)) (2 ^ c .args .lines) (c .loop-a .a) (omega arith)
-         (and-from (bit (c .args .row) (c .loop-a .a)) _ (ap (λ x. bit x (c .loop-a .a)) (sym (c .from .ensures)) ∙ sym (c .has-bit .ensures) ∙ c .if-has-bit .taken) (sym (c .goes-on .ensures) ∙ c .if-goes-on .taken)))
+    (and-from (bit (c .args .row) (c .loop-a .a)) _ (ap (λ x. bit x (c .loop-a .a)) (sym (c .from .ensures)) ∙ sym (c .has-bit .ensures) ∙ c .if-has-bit .taken) (sym (c .goes-on .ensures) ∙ c .if-goes-on .taken)))
 
 pub returns : need.returns
 returns c =

@@ -5,6 +5,7 @@ use lib.Pow.{pow-mono}
 use mathlib.Core.List.{List, []}
 use mathlib.Core.Path.{_≡_, sym, subst, subst₂}
 use native.Mathlib.Omega.{arith}
+use Rattle.plant.specs.Meaning.{most-lines}
 use Rattle.rules.specs.Listing.{concat-below, rule-at}
 use Rattle.rules.specs.declared.Rule.{Rule}
 use Rattle.rules.proofs.Listing.{prefixes-length}
@@ -18,8 +19,8 @@ loop-prefix-holds c = wrote-none (c .args .rules .now) (c .args .at)
 
 pub standing-rule-requires : need.standing-rule-requires
 standing-rule-requires c κs =
-    let low : c .args .line ≤ 4 = omega arith in
-    let few : 2 ^ c .args .line ≤ 16 = pow-mono low in
+    let low : c .args .line ≤ most-lines = omega arith in
+    let few : 2 ^ c .args .line ≤ 2 ^ most-lines = pow-mono low in
     omega arith
 
 -- a place is left for this prefix
@@ -51,13 +52,13 @@ loop-prefix-again c =
     let lt : m < length mid = omega arith in
     let within : m ≤ length before = omega arith in
     elim (c .match-standing-rule .came) [
-      in-Some w ↦
-        let one : Wrote mid (set mid m (w .in-Some .rule)) m (m + 1) (f p) =
-            subst (λ xs. Wrote mid (set mid m (w .in-Some .rule)) m (m + 1) xs) (w .in-Some .ensures tt) (wrote-one mid m (w .in-Some .rule) lt) in
-        subst₂ (λ after end. Wrote before after at end (concat-below f (p + 1))) (sym (w .rules-is)) (sym (w .end-is))
-        (wrote-next before mid (set mid m (w .in-Some .rule)) at m (m + 1) f p within (c .loop-prefix .inv) one)
-    | in-rest w ↦
-        let none : Wrote mid mid m m (f p) = subst (λ xs. Wrote mid mid m m xs) (w .in-rest .ensures tt) (wrote-none mid m) in
-        subst₂ (λ after end. Wrote before after at end (concat-below f (p + 1))) (sym (w .rules-is)) (sym (w .end-is))
-        (wrote-next before mid mid at m m f p within (c .loop-prefix .inv) none)
+      | in-Some w ↦
+          let one : Wrote mid (set mid m (w .in-Some .rule)) m (m + 1) (f p) =
+          subst (λ xs. Wrote mid (set mid m (w .in-Some .rule)) m (m + 1) xs) (w .in-Some .ensures tt) (wrote-one mid m (w .in-Some .rule) lt) in
+          subst₂ (λ after end. Wrote before after at end (concat-below f (p + 1))) (sym (w .rules-is)) (sym (w .end-is))
+          (wrote-next before mid (set mid m (w .in-Some .rule)) at m (m + 1) f p within (c .loop-prefix .inv) one)
+      | in-rest w ↦
+          let none : Wrote mid mid m m (f p) = subst (λ xs. Wrote mid mid m m xs) (w .in-rest .ensures tt) (wrote-none mid m) in
+          subst₂ (λ after end. Wrote before after at end (concat-below f (p + 1))) (sym (w .rules-is)) (sym (w .end-is))
+          (wrote-next before mid mid at m m f p within (c .loop-prefix .inv) none)
     ]

@@ -17,7 +17,7 @@ with-open-row-requires g c κs =
     let m = g .P·Plant .meaning (c .args .plant .now) in
     let p : ℕ → Bool = stays m (held-in (c .args .held .now)) (c .args .state) in
     let a = c .loop-a .a in
-    let few : settings m ≤ 16 = few-settings m (g .P·Plant .sound (c .args .plant .now)) in
+    let few = few-settings m (g .P·Plant .sound (c .args .plant .now)) in
     (subst (λ x. x < 2 ^ a) (sym (c .loop-a .inv)) (pack-small p a), omega arith)
 
 -- one setting more
@@ -32,10 +32,10 @@ loop-a-again g c =
     let was : c .loop-a .row ≡ pack p a = c .loop-a .inv in
     let test = c .pair-stays .ensures .value in
     elim (c .if-pair-stays .came) [
-      then-pair-stays w ↦
-        w .row-is ∙ w .with-open-row .ensures ∙ ap (λ x. 2 ^ a + x) was ∙ sym (packed-more p a true (sym test ∙ w .if-pair-stays .taken))
-    | else-pair-stays w ↦
-        w .row-is ∙ was ∙ sym (zero-add (pack p a)) ∙ sym (packed-more p a false (sym test ∙ w .if-pair-stays .left))
+      | then-pair-stays w ↦
+          w .row-is ∙ w .with-open-row .ensures ∙ ap (λ x. 2 ^ a + x) was ∙ sym (packed-more p a true (sym test ∙ w .if-pair-stays .taken))
+      | else-pair-stays w ↦
+          w .row-is ∙ was ∙ sym (zero-add (pack p a)) ∙ sym (packed-more p a false (sym test ∙ w .if-pair-stays .left))
     ]
 
 pub returns : need.returns
