@@ -11,18 +11,18 @@ use Rattle.std.proofs.shelf.Counted.{length-map-counting, getD-map-counting}
 use Rattle.std.proofs.shelf.Lists.{getD-past, take-at}
 use Rattle.std.proofs.shelf.Tests.{both-ways, cases-lt}
 use Rattle.plant.specs.Bits.{bit, pack}
-use Rattle.plant.specs.Bounded.{any-below}
 use Rattle.plant.specs.Lasting.{Safe-assignment, Largest, Lasting, Stays, Holds-starts, Hopeless}
 use Rattle.plant.specs.Meaning.{Meaning, Within, states, settings}
 use Rattle.plant.proofs.Bits.{bit-beyond, bit-pack, pack-small, pack-some}
-use Rattle.plant.proofs.Bounded.{decides-any, any-from-one}
+use Rattle.plant.proofs.Assignments.{states-of, state-after, states-last}
 use Rattle.rules.specs.declared.Rule.{Rule}
 use Rattle.rules.specs.Listing.{rules-of}
 use Rattle.rules.proofs.Listing.{lists-standing}
 use Rattle.rules.proofs.Readback.{read-back}
-use Rattle.sweep.specs.Greatest.{Greatest, held-in, stays, lasting-states}
+use Rattle.sweep.specs.Greatest.{Greatest, held-in, lasting-states}
+use Rattle.plant.specs.Staying.{stays}
 use Rattle.sweep.proofs.Greatest.{greatest-closed, lasting-states-greatest}
-use Rattle.sweep.proofs.Stays.{stays-decides}
+use Rattle.plant.proofs.Staying.{stays-decides}
 use Rattle.draft.specs.Outcome.{Filled, Reads-back, Went-through, Turned-away}
 use Rattle.draft.specs.Rows.{row-from, rows-of, open-in}
 use Rattle.draft.specs.Starts.{All-open, Lost}
@@ -75,28 +75,13 @@ module _ (m : Meaning) (within : Within m) where
         (w .0, open-decides t (w .0) .1 (w .1));
   }
 
-  -- the states that have a setting in a safe assignment are a lasting set
-  states-of : (K : ℕ → ℕ → Bool) → ℕ → Bool
-  states-of K s = any-below (K s) (settings m)
-
-  state-of : (K : ℕ → ℕ → Bool) → Safe-assignment m K → (s a : ℕ) → K s a ≡ true → states-of K s ≡ true
-  unfolding states-of
-  state-of K safe s a e = any-from-one (K s) (settings m) a (within .safe-setting s a (safe .safe s a e)) e
-
-  states-last : (K : ℕ → ℕ → Bool) → Safe-assignment m K → Lasting m (states-of K)
-  unfolding states-of
-  states-last K safe s e =
-      let w = decides-any (K s) (settings m) .0 e in
-      let a = w .0 in
-      (a, (safe .safe s a (w .2), λ t f. let b = safe .again s a t (w .2) f in state-of K safe t (b .0) (b .1)))
-
   rows-largest : Largest m (open-in (rows-of m))
   rows-largest = record {
     sound = rows-safe;
     all = λ K safe s a e.
         open-decides s a .1 (
           safe .safe s a e,
-          λ t f. let b = safe .again s a t e f in great .all (states-of K) (states-last K safe) t (state-of K safe t (b .0) (b .1)),
+          λ t f. great .all (states-of m K) (states-last m within K safe) t (state-after m within K safe s a t e f),
         );
   }
 

@@ -6,7 +6,8 @@ use lib.ListN.{getD}
 use Rattle.std.specs.Iters.{counting}
 use Rattle.plant.specs.Bits.{bit, pack}
 use Rattle.plant.specs.Meaning.{Meaning, states, settings}
-use Rattle.sweep.specs.Greatest.{held-in, lasting-states, stays}
+use Rattle.sweep.specs.Greatest.{held-in, lasting-states}
+use Rattle.plant.specs.Staying.{stays}
 
 -- row s: bit a is 1 where setting a is safe in s and leads only to states whose flag is up
 abbrev pub row-from : Meaning → List Bool → ℕ → ℕ

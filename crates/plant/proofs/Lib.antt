@@ -1,3 +1,5 @@
+pub mod Assignments
 pub mod Bits
 pub mod Bounded
 pub mod Sizes
+pub mod Staying

@@ -30,3 +30,7 @@ Holds-starts m L = (t : ℕ) → m .start t ≡ true → L t ≡ true
 -- no lasting set holds every start: no rule for the drive lines can keep the machine safe
 abbrev pub Hopeless : Meaning → Type 0
 Hopeless m = (L : ℕ → Bool) → Lasting m L → Holds-starts m L → ⊥
+
+-- (s, a) is safe, and some lasting set holds all the states that can follow it
+abbrev pub Open : Meaning → ℕ → ℕ → Type 0
+Open m s a = (m .safe s a ≡ true) × ((L : ℕ → Bool) × Lasting m L × ((t : ℕ) → m .follows s a t ≡ true → L t ≡ true))

@@ -2,3 +2,4 @@ pub mod Bits
 pub mod Bounded
 pub mod Lasting
 pub mod Meaning
+pub mod Staying

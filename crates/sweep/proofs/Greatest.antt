@@ -14,9 +14,10 @@ use Rattle.std.proofs.shelf.Counted.{length-map-counting, getD-map-counting}
 use Rattle.plant.specs.Meaning.{Meaning, Within, states}
 use Rattle.plant.specs.Lasting.{Lasting, Stays}
 use Rattle.plant.proofs.Bounded.{same-tests}
-use Rattle.sweep.specs.Greatest.{Greatest, held-in, can-stay, swept, sweeps, lasting-states}
+use Rattle.sweep.specs.Greatest.{Greatest, held-in, swept, sweeps, lasting-states}
+use Rattle.plant.specs.Staying.{can-stay}
 use Rattle.sweep.specs.Sweep.{up, Inside, Swept}
-use Rattle.sweep.proofs.Stays.{can-stay-decides}
+use Rattle.plant.proofs.Staying.{can-stay-decides}
 
 -- a state whose flag is up has a flag
 pub flag-below : (flags : List Bool) (k : ℕ) → held-in flags k ≡ true → k < length flags

@@ -1,3 +1,2 @@
 pub mod Greatest
-pub mod Stays
 pub mod Sweeping

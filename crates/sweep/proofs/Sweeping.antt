@@ -11,10 +11,11 @@ use Rattle.std.proofs.shelf.Tests.{both-ways, cases-eq, false≢true, true≢fa
 use Rattle.std.proofs.shelf.Lists.{getD-set-other}
 use Rattle.plant.specs.Meaning.{Meaning, Within, states}
 use Rattle.plant.specs.Lasting.{Lasting, Stays}
-use Rattle.sweep.specs.Greatest.{held-in, can-stay}
+use Rattle.sweep.specs.Greatest.{held-in}
+use Rattle.plant.specs.Staying.{can-stay}
 use Rattle.sweep.specs.Sweep.{up, Inside, Swept}
 use Rattle.sweep.proofs.Greatest.{flag-below}
-use Rattle.sweep.proofs.Stays.{can-stay-decides}
+use Rattle.plant.proofs.Staying.{can-stay-decides}
 
 -- a flag that falls
 pub up-lowered : (held : List Bool) (s : ℕ) → held-in held s ≡ true → up (set held s false) < up held

@@ -1,13 +1,13 @@
 -- The greatest lasting set: by its property, and as a list that computes. Assumes nothing.
 use Prim.Native.Nat.{ℕ, zero, suc}
-use mathlib.Core.Bool.{Bool, true, false, not, _&&_, _||_}
+use mathlib.Core.Bool.{Bool, true, false, _&&_}
 use mathlib.Core.List.{List, map}
 use mathlib.Core.Path.{_≡_}
 use lib.ListN.{length, getD, replicate}
 use Rattle.std.specs.Iters.{counting}
-use Rattle.plant.specs.Meaning.{Meaning, states, settings}
+use Rattle.plant.specs.Meaning.{Meaning, states}
 use Rattle.plant.specs.Lasting.{Lasting}
-use Rattle.plant.specs.Bounded.{all-below, any-below}
+use Rattle.plant.specs.Staying.{can-stay}
 
 -- the set of the states whose flag is up
 abbrev pub held-in : List Bool → ℕ → Bool
@@ -18,14 +18,6 @@ pub record Greatest (m : Meaning) (held : List Bool) : Type 0 where
   pub size : length held ≡ states m
   pub lasts : Lasting m (held-in held)
   pub all : (L : ℕ → Bool) → Lasting m L → (s : ℕ) → L s ≡ true → held-in held s ≡ true
-
--- whether setting a is safe in state s and leads only to states of L
-abbrev pub stays : Meaning → (ℕ → Bool) → ℕ → ℕ → Bool
-stays m L s a = m .safe s a && all-below (λ t. not (m .follows s a t) || L t) (states m)
-
--- whether some setting of state s is safe and leads only to states of L
-abbrev pub can-stay : Meaning → (ℕ → Bool) → ℕ → Bool
-can-stay m L s = any-below (λ a. stays m L s a) (settings m)
 
 -- one sweep: the flags of the states that can stay among those whose flag is up
 abbrev pub swept : Meaning → List Bool → List Bool

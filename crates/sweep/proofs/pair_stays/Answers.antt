@@ -4,8 +4,9 @@ use native.Mathlib.Omega.{arith}
 use Rattle.std.proofs.shelf.Tests.{both-ways}
 use Rattle.std.proofs.shelf.Ways.{decides-at}
 use Rattle.plant.proofs.Bounded.{false-when-not}
-use Rattle.sweep.specs.Greatest.{held-in, stays}
-use Rattle.sweep.proofs.Stays.{stays-decides}
+use Rattle.sweep.specs.Greatest.{held-in}
+use Rattle.plant.specs.Staying.{stays}
+use Rattle.plant.proofs.Staying.{stays-decides}
 use Rattle.sweep.proofs.pair_stays.Needs as need
 
 pub returns : need.returns

@@ -4,7 +4,8 @@ use native.Mathlib.Omega.{arith}
 use Prim.Native.Nat.{_≤_, _<_}
 use Rattle.plant.specs.Meaning.{settings}
 use Rattle.plant.proofs.Bounded.{any-from-none, any-from-one}
-use Rattle.sweep.specs.Greatest.{stays, held-in}
+use Rattle.sweep.specs.Greatest.{held-in}
+use Rattle.plant.specs.Staying.{stays}
 use Rattle.sweep.proofs.state_stays.Needs as need
 
 pub loop-a-again : need.loop-a-again

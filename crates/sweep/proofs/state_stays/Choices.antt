@@ -2,7 +2,8 @@ use Prim.Native.Nat.{ℕ, _<_}
 use mathlib.Core.Bool.{false}
 use mathlib.Core.Path.{_≡_}
 use Rattle.plant.specs.Bounded.{any-below}
-use Rattle.sweep.specs.Greatest.{held-in, stays}
+use Rattle.sweep.specs.Greatest.{held-in}
+use Rattle.plant.specs.Staying.{stays}
 use Rattle.sweep.proofs.state_stays.Given as given
 
 -- no setting below a stays

@@ -4,7 +4,8 @@ use mathlib.Core.Path.{_≡_, sym, _∙_, subst₂}
 use native.Mathlib.Omega.{arith}
 use Prim.Native.Nat.{_+_}
 use Rattle.std.proofs.shelf.Tests.{both-ways}
-use Rattle.sweep.specs.Greatest.{held-in, can-stay}
+use Rattle.sweep.specs.Greatest.{held-in}
+use Rattle.plant.specs.Staying.{can-stay}
 use Rattle.sweep.proofs.Sweeping.{Sweeping, sweeping-kept, sweeping-lowered, sweeping-all}
 use Rattle.sweep.proofs.sweep.Needs as need
 use Rattle.sweep.proofs.sweep.Needs.{then-held-s·then-not-state-stays, else-held-s, else-held-s·by·then-held-s·else-not-state-stays, else-held-s·by·else-held-s}

@@ -8,7 +8,8 @@ use Rattle.plant.specs.Bits.{pack}
 use Rattle.plant.specs.Meaning.{settings}
 use Rattle.plant.proofs.Bits.{pack-small}
 use Rattle.plant.proofs.Sizes.{few-settings}
-use Rattle.sweep.specs.Greatest.{held-in, stays}
+use Rattle.sweep.specs.Greatest.{held-in}
+use Rattle.plant.specs.Staying.{stays}
 use Rattle.draft.proofs.rows.open_row.Needs as need
 use Rattle.draft.proofs.rows.open_row.Needs.{then-pair-stays, else-pair-stays}
 

@@ -1,6 +1,7 @@
 use mathlib.Core.Path.{_≡_}
 use Rattle.plant.specs.Bits.{pack}
-use Rattle.sweep.specs.Greatest.{held-in, stays}
+use Rattle.sweep.specs.Greatest.{held-in}
+use Rattle.plant.specs.Staying.{stays}
 use Rattle.draft.proofs.rows.open_row.Given as given
 
 -- the settings below a are packed

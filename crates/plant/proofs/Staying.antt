@@ -1,4 +1,4 @@
--- The tests of one sweep, as statements about the plant. Assumes nothing.
+-- The tests whether a setting keeps within a set of states, in words. Assumes nothing.
 use Prim.Native.Nat.{ℕ, _<_}
 use mathlib.Core.Bool.{Bool, true, false, not, _||_, _&&_}
 use mathlib.Core.Logic.{⊎-elim}
@@ -6,11 +6,11 @@ use mathlib.Core.Path.{_≡_, refl, sym, ap}
 use Rattle.std.specs.Orderings.{Decides}
 use Rattle.std.proofs.shelf.Ways.{decides-like}
 use Rattle.std.proofs.shelf.Tests.{and-parts, and-from, false≢true}
 use Rattle.plant.specs.Meaning.{Meaning, Within, states, settings}
 use Rattle.plant.specs.Lasting.{Stays}
 use Rattle.plant.specs.Bounded.{all-below}
 use Rattle.plant.proofs.Bounded.{decides-all, decides-any}
-use Rattle.sweep.specs.Greatest.{stays, can-stay}
+use Rattle.plant.specs.Staying.{stays, can-stay}
 
 implied : (b c : Bool) → (not b || c) ≡ true → b ≡ true → c ≡ true
 implied true c e _ = e
