@@ -15,6 +15,8 @@ use Rattle.plant.specs.Lasting.{Safe-assignment, Largest, Lasting, Stays, Holds
 use Rattle.plant.specs.Meaning.{Meaning, Within, states, settings}
 use Rattle.plant.proofs.Bits.{bit-beyond, bit-pack, pack-small, pack-some}
 use Rattle.plant.proofs.Assignments.{states-of, state-after, states-last}
+use Rattle.reader.specs.Strings.{Faithful, Keeps-law}
+use Rattle.reader.proofs.Keeping.{keeps-law}
 use Rattle.rules.specs.declared.Rule.{Rule}
 use Rattle.rules.specs.Listing.{rules-of}
 use Rattle.rules.proofs.Listing.{lists-standing}
@@ -118,6 +120,14 @@ module _ (m : Meaning) (within : Within m) where
       read-back (m .bits) (m .lines) (rows-of m) (rules-of (m .bits) (m .lines) (rows-of m)) (lists-standing (m .lines) (rows-of m) (m .bits))
       s s-lt (w .0) (open-setting s (w .0) (w .1)) (w .1) a a-lt
 
+  rows-faithful : All-open m (rows-of m) → Faithful m (rules-of (m .bits) (m .lines) (rows-of m))
+  rows-faithful all = record {
+    assigned = open-in (rows-of m);
+    largest = rows-largest;
+    starts = starts-open all;
+    reads = λ s a b a-lt e. rows-read-back s a (open-state s b e) a-lt (λ empty. empty-shuts (rows-of m) s b empty e);
+  }
+
   pub turned-away : (before : List Rule) (t : ℕ) → Lost m (rows-of m) t → Turned-away m (rows-of m) before before t
   turned-away before t lost = record { filled = rows-filled; lost = lost; hopeless = lost-hopeless t lost; same = refl }
 
@@ -134,4 +144,6 @@ module _ (m : Meaning) (within : Within m) where
         rules = wrote .places;
         standing = subst (λ xs. Rattle.rules.specs.Listing.Lists-standing (m .bits) (m .lines) (rows-of m) xs) (sym first) (lists-standing (m .lines) (rows-of m) (m .bits));
         read-back = subst (λ xs. Reads-back m (rows-of m) xs) (sym first) rows-read-back;
+        faithful = subst (λ xs. Faithful m xs) (sym first) (rows-faithful all);
+        law = subst (λ xs. Keeps-law m xs) (sym first) (keeps-law m within rs (rows-faithful all));
       }

@@ -8,6 +8,7 @@ use Rattle.std.specs.declared.result.Result.{Result}
 use Rattle.std.specs.declared.result.Result.the-variants.{Ok, Err}
 use Rattle.plant.specs.Meaning.{Meaning, states, settings}
 use Rattle.plant.specs.Lasting.{Largest, Lasting, Holds-starts, Hopeless}
+use Rattle.reader.specs.Strings.{Faithful, Keeps-law}
 use Rattle.rules.specs.declared.Rule.{Rule}
 use Rattle.rules.specs.Fitting.{fits}
 use Rattle.rules.specs.Listing.{rules-of, Lists-standing}
@@ -26,7 +27,8 @@ pub record Filled (m : Meaning) (rows : List ℕ) : Type 0 where
 abbrev pub Reads-back : Meaning → List ℕ → List Rule → Type 0
 Reads-back m rows rs = (s a : ℕ) → s < states m → a < settings m → (getD rows s 0 ≡ 0 → ⊥) → fits (m .bits) (m .lines) rs s a ≡ open-in rows s a
 
--- every start has an open setting, some lasting set holds every start, and the first n places have just the rules that stand
+-- every start has an open setting, some lasting set holds every start, the first n places have just the rules that stand,
+-- and every string of calls that is read with these rules keeps the law
 pub record Went-through (m : Meaning) (rows : List ℕ) (before after : List Rule) (n : ℕ) : Type 0 where
   pub filled : Filled m rows
   pub starts : (t : ℕ) → m .start t ≡ true → (a : ℕ) × (open-in rows t a ≡ true)
@@ -35,6 +37,8 @@ pub record Went-through (m : Meaning) (rows : List ℕ) (before after : List Rul
   pub rules : after ≡ rules-of (m .bits) (m .lines) rows ++ drop n before
   pub standing : Lists-standing (m .bits) (m .lines) rows (take n after)
   pub read-back : Reads-back m rows (take n after)
+  pub faithful : Faithful m (take n after)
+  pub law : Keeps-law m (take n after)
 
 -- start t is the lowest whose row is empty, no lasting set holds every start, and the rules are as before
 pub record Turned-away (m : Meaning) (rows : List ℕ) (before after : List Rule) (t : ℕ) : Type 0 where

@@ -57,10 +57,11 @@ module _ (m : Meaning) (within : Within m) where
   -- the largest safe assignment has just the pairs that are safe and lead only into some lasting set
   pub largest-open : (H : ℕ → ℕ → Bool) → Largest m H → (s a : ℕ) → Decides (H s a) (Open m s a)
   unfolding with-pair
-  largest-open H largest s a =
-      (λ e. (largest .sound .safe s a e, (states-of m H, states-last H (largest .sound), λ t f. state-after H (largest .sound) s a t e f)),
-       λ o.
-         let L = o .1 .0 in
-         let h : Stays m L s a = (o .0, o .1 .2) in
-         largest .all (with-pair L s a) (with-pair-safe L (o .1 .1) s a h) s a
-         (or-left (eqb s s && eqb a a) _ (and-from (eqb s s) (eqb a a) (eq-eqb s s refl) (eq-eqb a a refl))))
+  largest-open H largest s a = (
+    λ e. (largest .sound .safe s a e, (states-of m H, states-last H (largest .sound), λ t f. state-after H (largest .sound) s a t e f)),
+    λ o.
+        let L = o .1 .0 in
+        let h : Stays m L s a = (o .0, o .1 .2) in
+        largest .all (with-pair L s a) (with-pair-safe L (o .1 .1) s a h) s a
+        (or-left (eqb s s && eqb a a) _ (and-from (eqb s s) (eqb a a) (eq-eqb s s refl) (eq-eqb a a refl))),
+  )
