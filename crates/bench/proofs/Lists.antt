@@ -9,37 +9,10 @@ use mathlib.Core.Logic.{⊎-elim}
 use mathlib.Core.Path.{_≡_, refl, sym, ap, subst}
 use Rattle.std.specs.Orderings.{Decides}
 use Rattle.std.proofs.shelf.Tests.{and-from, and-parts, or-cases, or-left, or-right, false≢true, eqb-true, eq-eqb}
-use Rattle.bench.specs.Entries.{all-of}
-use Rattle.bench.specs.Table.{some-of, leaves, goes, table-meaning, Table-words}
+use Rattle.plant.specs.Tests.{some-of}
+use Rattle.plant.proofs.Tests.{some-decides, one-decides}
+use Rattle.bench.specs.Table.{leaves, goes, table-meaning, Table-words}
 use Rattle.bench.specs.declared.entry.Move.{Move}
-
--- p holds at every place
-pub all-from-places : {X : Type 0} (p : X → Bool) (xs : List X) → ((k : ℕ) (d : X) → k < length xs → p (getD xs k d) ≡ true) → all-of p xs ≡ true
-all-from-places p [] each = refl
-all-from-places p (x ∷ xs) each = and-from (p x) (all-of p xs) (each 0 x (omega arith)) (all-from-places p xs (λ k d lt. each (suc k) d (omega arith)))
-
--- some element passes the test
-some-decides : {X : Type 0} (q : X → Bool) (xs : List X) → Decides (some-of q xs) ((x : X) × List·Memᴰ x xs × (q x ≡ true))
-some-decides q [] = (λ e. absurd (false≢true e), λ w. absurd (List·Memᴰ·not-nil (w .1)))
-some-decides {X} q (x ∷ xs) =
-    let rest = some-decides q xs in (
-      λ e. ⊎-elim
-          (λ here. (x, List·Memᴰ·head refl, here))
-          (λ later. let w = rest .0 later in (w .0, List·Memᴰ·tail (w .1), w .2))
-          (or-cases (q x) (some-of q xs) e),
-      λ w. ⊎-elim
-          (λ is. or-left (q x) _ (subst (λ (y : X). q y ≡ true) is (w .2)))
-          (λ later. or-right (q x) _ (rest .1 (w .0, later, w .2)))
-          (List·Memᴰ·cases-cons (w .1)),
-    )
-
--- a test for one element asks whether the list has it
-one-decides : {X : Type 0} (q : X → Bool) (x : X) → ((y : X) → Decides (q y) (y ≡ x)) → (xs : List X) → Decides (some-of q xs) (List·Memᴰ x xs)
-one-decides {X} q x is xs =
-    let d = some-decides q xs in (
-      λ e. let w = d .0 e in subst (λ (y : X). List·Memᴰ y xs) (is (w .0) .0 (w .2)) (w .1),
-      λ here. d .1 (x, here, is x .1 refl),
-    )
 
 start-test : (t y : ℕ) → Decides (eqb t y) (y ≡ t)
 start-test t y = (λ e. sym (eqb-true t y e), λ e. eq-eqb t y (sym e))

@@ -20,11 +20,6 @@ start-fits states settings t = ltb t states
 abbrev pub move-fits : ℕ → ℕ → Move → Bool
 move-fits states settings v = ltb (v .from) states && (ltb (v .setting) settings && ltb (v .to) states)
 
--- whether p holds of every element
-abbrev pub all-of : {X : Type 0} → (X → Bool) → List X → Bool
-all-of p [] = true
-all-of p (x ∷ xs) = p x && all-of p xs
-
 -- the element at i fails p, and no element before it does
 pub record First-misfit {X : Type 0} (p : X → Bool) (xs : List X) (i : ℕ) : Type 0 where
   pub inside : i < length xs

@@ -7,16 +7,11 @@ use mathlib.Core.Path.{_≡_, sym, subst}
 use lib.Dec.{eqb, leb, ltb}
 use Rattle.std.proofs.shelf.Tests.{and-parts, or-cases, leb-true, ltb-true, eqb-true, false≢true}
 use Rattle.plant.specs.Meaning.{Within}
-use Rattle.bench.specs.Entries.{sizes-fit, start-fits, move-fits, all-of}
-use Rattle.bench.specs.Table.{table-fits, table-meaning, some-of, leaves, goes}
+use Rattle.bench.specs.Entries.{sizes-fit, start-fits, move-fits}
+use Rattle.plant.specs.Tests.{all-of, some-of}
+use Rattle.plant.proofs.Tests.{some-fits}
+use Rattle.bench.specs.Table.{table-fits, table-meaning, leaves, goes}
 use Rattle.bench.specs.declared.entry.Move.{Move}
-
--- what passes one test, in a list where all pass another, passes both somewhere
-pub some-fits : {X : Type 0} (p q : X → Bool) (xs : List X) → all-of p xs ≡ true → some-of q xs ≡ true → (x : X) × (p x ≡ true) × (q x ≡ true)
-some-fits p q [] all some = absurd (false≢true some)
-some-fits p q (x ∷ xs) all some =
-    let parts = and-parts (p x) (all-of p xs) all in
-    ⊎-elim (λ here. (x, parts .0, here)) (λ later. some-fits p q xs (parts .1) later) (or-cases (q x) (some-of q xs) some)
 
 module _ (b n : ℕ) (starts : List ℕ) (moves : List Move) (fits : table-fits b n starts moves ≡ true) where
   sizes : sizes-fit b n ≡ true

@@ -6,17 +6,13 @@ use mathlib.Core.Path.{_≡_}
 use lib.Dec.{eqb}
 use Rattle.std.specs.Orderings.{Decides}
 use Rattle.plant.specs.Meaning.{Meaning}
-use Rattle.bench.specs.Entries.{sizes-fit, start-fits, move-fits, all-of}
+use Rattle.bench.specs.Entries.{sizes-fit, start-fits, move-fits}
+use Rattle.plant.specs.Tests.{all-of, some-of}
 use Rattle.bench.specs.declared.entry.Move.{Move}
 
 -- the sizes are within their limits, and every entry within the sizes
 abbrev pub table-fits : ℕ → ℕ → List ℕ → List Move → Bool
 table-fits b n starts moves = sizes-fit b n && (all-of (start-fits (2 ^ b) (2 ^ n)) starts && all-of (move-fits (2 ^ b) (2 ^ n)) moves)
-
--- whether p holds of some element
-abbrev pub some-of : {X : Type 0} → (X → Bool) → List X → Bool
-some-of p [] = false
-some-of p (x ∷ xs) = p x || some-of p xs
 
 -- whether the move goes from state s by setting a
 abbrev pub leaves : ℕ → ℕ → Move → Bool

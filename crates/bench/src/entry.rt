@@ -3,7 +3,8 @@ ghost use mathlib.Core.Bool.{Bool, true};
 ghost use mathlib.Core.Path.{_≡_};
 ghost use Prim.Native.Nat.{ℕ};
 ghost use Rattle.std.specs.Options.{Cases as BySome};
-ghost use Rattle.bench.specs.Entries.{start-fits, move-fits, all-of, First-misfit};
+ghost use Rattle.bench.specs.Entries.{start-fits, move-fits, First-misfit};
+ghost use Rattle.plant.specs.Tests.{all-of};
 
 // From state `from`, by `setting`, the machine may move to state `to`.
 #[derive(Clone, Copy, PartialEq, Eq, Debug)]

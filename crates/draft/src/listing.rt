@@ -7,7 +7,7 @@ ghost use lib.ListN.{length};
 ghost use Rattle.std.specs.Vec.{listOf};
 ghost use Rattle.plant.specs.Meaning.{states, most-bits, most-lines};
 ghost use Rattle.plant.specs.Bits.{bit};
-ghost use Rattle.rules.specs.Fitting.{same};
+ghost use Rattle.plant.specs.Tests.{same};
 ghost use Rattle.rules.specs.Listing.{some-open, rule-at, rules-of-line, rules-of-state, rules-of};
 ghost use Rattle.draft.specs.Rows.{places-needed};
 ghost use Rattle.draft.specs.Writing.{Wrote};

@@ -3,3 +3,4 @@ pub mod Bits
 pub mod Bounded
 pub mod Sizes
 pub mod Staying
+pub mod Tests

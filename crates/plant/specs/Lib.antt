@@ -3,3 +3,4 @@ pub mod Bounded
 pub mod Lasting
 pub mod Meaning
 pub mod Staying
+pub mod Tests

@@ -8,14 +8,10 @@ use lib.Dec.{eqb, ltb}
 use Rattle.std.specs.Orderings.{Decides}
 use Rattle.std.proofs.shelf.Tests.{and-parts, and-from, and-left, not-true, not-from-true, not-from-false, false≢true, true≢false, lt-ltb, ltb-true, eq-eqb, eqb-true, both-ways}
 use Rattle.plant.specs.Bits.{bit}
-use Rattle.rules.specs.Fitting.{same, in-range, applies, breaks, fits, Obeys, Fits}
+use Rattle.rules.specs.Fitting.{in-range, applies, breaks, fits, Obeys, Fits}
+use Rattle.plant.specs.Tests.{same}
+use Rattle.plant.proofs.Tests.{same-decides}
 use Rattle.rules.specs.declared.Rule.{Rule}
-
--- equal truth values, and only those, are the same
-pub same-decides : (u v : Bool) → Decides (same u v) (u ≡ v)
-same-decides true v = (λ e. sym e, λ e. sym e)
-same-decides false true = (λ e. absurd (false≢true e), λ e. absurd (false≢true e))
-same-decides false false = (λ _. refl, λ _. refl)
 
 module _ (b n s a : ℕ) where
   -- a rule that is not broken is obeyed, and the other way round

@@ -14,10 +14,10 @@ use Rattle.std.proofs.shelf.Tests.{and-parts, and-from, eqb-true, eq-eqb, cases
 use Rattle.plant.specs.Bits.{bit}
 use Rattle.plant.specs.Bounded.{any-below}
 use Rattle.plant.proofs.Bounded.{decides-any, false-when-not}
-use Rattle.rules.specs.Fitting.{same}
+use Rattle.plant.specs.Tests.{same}
 use Rattle.rules.specs.Listing.{concat-below, some-open, rule-at, rules-of-line, rules-of-state, rules-of, Some-open, Stands, Before, Lists-standing}
 use Rattle.rules.specs.declared.Rule.{Rule}
-use Rattle.rules.proofs.Fitting.{same-decides}
+use Rattle.plant.proofs.Tests.{same-decides}
 
 -- what is in a concatenation is in one of its parts, and the other way round
 concat-cases : {X : Type 0} (f : ℕ → List X) (n : ℕ) {x : X} → List·Memᴰ x (concat-below f n) → (k : ℕ) × (k < n) × List·Memᴰ x (f k)

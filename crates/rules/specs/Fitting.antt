@@ -5,12 +5,8 @@ use mathlib.Core.List.{List, [], _∷_, List·Memᴰ}
 use mathlib.Core.Path.{_≡_}
 use lib.Dec.{eqb, ltb}
 use Rattle.plant.specs.Bits.{bit}
+use Rattle.plant.specs.Tests.{same}
 use Rattle.rules.specs.declared.Rule.{Rule}
-
--- whether two truth values are the same
-abbrev pub same : Bool → Bool → Bool
-same true v = v
-same false v = not v
 
 -- the rule is of a state below 2 ^ b, a line below n and a prefix below 2 ^ line: any other rule binds nothing
 abbrev pub in-range : ℕ → ℕ → Rule → Bool

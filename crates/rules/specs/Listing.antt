@@ -8,7 +8,7 @@ use lib.Dec.{eqb}
 use lib.ListN.{length, getD}
 use Rattle.plant.specs.Bounded.{any-below}
 use Rattle.plant.specs.Bits.{bit}
-use Rattle.rules.specs.Fitting.{same}
+use Rattle.plant.specs.Tests.{same}
 use Rattle.rules.specs.declared.Rule.{Rule}
 
 -- f 0, then f 1, and so on up to f (n - 1)

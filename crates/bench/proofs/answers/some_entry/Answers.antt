@@ -4,7 +4,7 @@ use lib.ListN.{drop, getD}
 use Prim.Native.Nat.{_+_}
 use Rattle.std.proofs.shelf.Lists.{at-drop-more, at-drop-all}
 use Rattle.std.proofs.shelf.Tests.{or-left}
-use Rattle.bench.specs.Table.{some-of}
+use Rattle.plant.specs.Tests.{some-of}
 use Rattle.bench.proofs.answers.some_entry.Needs as need
 
 pub returns-then-passes : need.returns-then-passes

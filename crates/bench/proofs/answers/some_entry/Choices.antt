@@ -1,6 +1,6 @@
 use mathlib.Core.Path.{_≡_}
 use lib.ListN.{drop}
-use Rattle.bench.specs.Table.{some-of}
+use Rattle.plant.specs.Tests.{some-of}
 use Rattle.bench.proofs.answers.some_entry.Given as given
 
 -- the entries seen so far do not pass, so those left decide

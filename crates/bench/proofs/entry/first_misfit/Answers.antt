@@ -1,5 +1,5 @@
 use native.Mathlib.Omega.{arith}
-use Rattle.bench.proofs.Lists.{all-from-places}
+use Rattle.plant.proofs.Tests.{all-from-places}
 use Rattle.bench.proofs.entry.first_misfit.Needs as need
 
 pub returns : need.returns

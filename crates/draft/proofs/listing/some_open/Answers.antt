@@ -8,7 +8,7 @@ use Rattle.std.proofs.shelf.Tests.{and-from}
 use Rattle.plant.specs.Bits.{bit}
 use Rattle.plant.specs.Meaning.{most-lines}
 use Rattle.plant.proofs.Bounded.{any-from-none, any-from-one}
-use Rattle.rules.specs.Fitting.{same}
+use Rattle.plant.specs.Tests.{same}
 use Rattle.draft.proofs.listing.some_open.Needs as need
 
 abbrev test : ℕ → ℕ → ℕ → Bool → ℕ → Bool

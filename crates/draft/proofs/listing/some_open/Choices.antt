@@ -3,7 +3,7 @@ use mathlib.Core.Bool.{false, _&&_}
 use mathlib.Core.Path.{_≡_}
 use lib.Dec.{eqb}
 use Rattle.plant.specs.Bits.{bit}
-use Rattle.rules.specs.Fitting.{same}
+use Rattle.plant.specs.Tests.{same}
 use Rattle.draft.proofs.listing.some_open.Given as given
 
 -- no setting below a is one
