@@ -1,14 +1,11 @@
 -- Tests over lists, in words. Assumes nothing.
-use Prim.Native.Nat.{ℕ, suc, _<_}
-use native.Mathlib.Omega.{arith}
+use Prim.Native.Nat.{ℕ}
 use lib.Dec.{eqb}
-use lib.ListN.{length, getD}
-use mathlib.Core.Bool.{Bool, true, false, _&&_, _||_}
-use mathlib.Core.List.{List, [], _∷_, List·Memᴰ, List·Memᴰ·head, List·Memᴰ·tail, List·Memᴰ·not-nil, List·Memᴰ·cases-cons}
-use mathlib.Core.Logic.{⊎-elim}
-use mathlib.Core.Path.{_≡_, refl, sym, ap, subst}
+use mathlib.Core.Bool.{true}
+use mathlib.Core.List.{List}
+use mathlib.Core.Path.{_≡_, refl, sym, ap}
 use Rattle.std.specs.Orderings.{Decides}
-use Rattle.std.proofs.shelf.Tests.{and-from, and-parts, or-cases, or-left, or-right, false≢true, eqb-true, eq-eqb}
+use Rattle.std.proofs.shelf.Tests.{and-from, and-parts, eqb-true, eq-eqb}
 use Rattle.plant.specs.Tests.{some-of}
 use Rattle.plant.proofs.Tests.{some-decides, one-decides}
 use Rattle.bench.specs.Table.{leaves, goes, table-meaning, Table-words}

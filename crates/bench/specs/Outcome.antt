@@ -1,6 +1,6 @@
 -- What making a bench table answers, for all input. Assumes nothing.
 use Prim.Native.Nat.{ℕ, _+_, _^_}
-use mathlib.Core.Bool.{Bool, true, false}
+use mathlib.Core.Bool.{true, false}
 use mathlib.Core.List.{List}
 use mathlib.Core.Logic.{_⊎_}
 use mathlib.Core.Path.{_≡_}
@@ -27,7 +27,7 @@ First-beyond b n starts moves i =
     First-misfit (start-fits (2 ^ b) (2 ^ n)) starts i
     ⊎ ((all-of (start-fits (2 ^ b) (2 ^ n)) starts ≡ true) × ((j : ℕ) × (i ≡ length starts + j) × First-misfit (move-fits (2 ^ b) (2 ^ n)) moves j))
 
--- a size out of its limits, else the first entry beyond the sizes, else a table that means the two lists
+-- a size out of its limits (4), else the first entry beyond the sizes (12), else a table that means the two lists
 abbrev pub Built : ℕ → ℕ → List ℕ → List Move → Result BenchTable TableFault → Type 0
 Built b n starts moves (Ok x) = (table-fits b n starts moves ≡ true) × (bench-meaning x ≡ table-meaning b n starts moves) × Table-words b n starts moves (bench-meaning x)
 Built b n starts moves (Err SizeLimits) = sizes-fit b n ≡ false

@@ -1,11 +1,10 @@
 -- A table whose entries fit means a plant within the limits. Assumes nothing.
-use Prim.Native.Nat.{ℕ, _^_, _<_, _≤_}
-use mathlib.Core.Bool.{Bool, true, false, _&&_, _||_}
-use mathlib.Core.List.{List, [], _∷_}
-use mathlib.Core.Logic.{⊎-elim}
+use Prim.Native.Nat.{ℕ, _^_, _<_}
+use mathlib.Core.Bool.{Bool, true}
+use mathlib.Core.List.{List}
 use mathlib.Core.Path.{_≡_, sym, subst}
-use lib.Dec.{eqb, leb, ltb}
-use Rattle.std.proofs.shelf.Tests.{and-parts, or-cases, leb-true, ltb-true, eqb-true, false≢true}
+use lib.Dec.{eqb}
+use Rattle.std.proofs.shelf.Tests.{and-parts, leb-true, ltb-true, eqb-true}
 use Rattle.plant.specs.Meaning.{Within}
 use Rattle.bench.specs.Entries.{sizes-fit, start-fits, move-fits}
 use Rattle.plant.specs.Tests.{all-of, some-of}

@@ -6,9 +6,9 @@ use refusal::Refusal;
 
 #[derive(Clone, Copy, PartialEq, Eq, Debug)]
 pub enum TableFault {
-    // The number of state bits or of lines is out of its limits.
+    // 4, 0: the number of state bits or of lines is out of its limits.
     SizeLimits,
-    // This entry, the first such, names a state or a setting beyond the sizes; moves are counted on after starts.
+    // 12, the index: this entry, the first such, names a state or a setting beyond the sizes; moves are counted on after starts.
     EntryBeyond { index: usize },
 }
 

@@ -7,7 +7,6 @@ mod table;
 
 pub use answers::BenchTablePlant;
 pub use entry::Move;
-pub use entry::MovePartialEq;
 pub use fault::TableFault;
 pub use fault::TableFaultDebug;
 pub use fault::TableFaultPartialEq;

@@ -87,10 +87,8 @@ fn print_reading(rt: &LibcRuntime, table: &BenchTable) -> io::Result<()> {
             for rule in rules.iter().take(count) {
                 println!(rt, "rule: {rule}")?;
             }
-            if count <= 4 {
-                print_session(rt, table, &rules[0..count])?;
-            }
-            println!(rt, "Each call was taken exactly when it was due.")
+            print_session(rt, table, &rules[0..count])?;
+            println!(rt, "Each call was taken exactly when it was permitted.")
         }
         Err(fault) => rt.println(fault.refusal()),
     }

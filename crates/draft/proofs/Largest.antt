@@ -1,17 +1,17 @@
 -- The computed rows are the largest safe assignment, and what they say of the starts. Assumes nothing.
-use Prim.Native.Nat.{ℕ, _<_, _≤_}
+use Prim.Native.Nat.{ℕ, _<_}
 use native.Mathlib.Omega.{arith}
 use lib.ListN.{length, getD, take, drop}
 use mathlib.Core.Bool.{Bool, true, false}
-use mathlib.Core.List.{List, _++_}
+use mathlib.Core.List.{List}
 use mathlib.Core.Logic.{⊎-elim}
 use mathlib.Core.Path.{_≡_, refl, sym, ap, subst, _∙_}
 use Rattle.std.specs.Orderings.{Decides}
 use Rattle.std.proofs.shelf.Counted.{length-map-counting, getD-map-counting}
 use Rattle.std.proofs.shelf.Lists.{getD-past, take-at}
-use Rattle.std.proofs.shelf.Tests.{both-ways, cases-lt}
-use Rattle.plant.specs.Bits.{bit, pack}
-use Rattle.plant.specs.Lasting.{Safe-assignment, Largest, Lasting, Stays, Holds-starts, Hopeless}
+use Rattle.std.proofs.shelf.Tests.{both-ways, cases-eq, cases-lt}
+use Rattle.plant.specs.Bits.{bit}
+use Rattle.plant.specs.Lasting.{Safe-assignment, Largest, Stays, Holds-starts, Hopeless}
 use Rattle.plant.specs.Meaning.{Meaning, Within, states, settings}
 use Rattle.plant.proofs.Bits.{bit-beyond, bit-pack, pack-small, pack-some}
 use Rattle.plant.proofs.Assignments.{states-of, state-after, states-last}
@@ -19,7 +19,7 @@ use Rattle.reader.specs.Strings.{Faithful, Keeps-law}
 use Rattle.reader.proofs.Keeping.{keeps-law}
 use Rattle.rules.specs.declared.Rule.{Rule}
 use Rattle.rules.specs.Listing.{rules-of}
-use Rattle.rules.proofs.Listing.{lists-standing}
+use Rattle.rules.proofs.Listing.{lists-standing, states-length}
 use Rattle.rules.proofs.Readback.{read-back}
 use Rattle.sweep.specs.Greatest.{Greatest, held-in, lasting-states}
 use Rattle.plant.specs.Staying.{stays}
@@ -33,6 +33,16 @@ use Rattle.draft.specs.Writing.{Wrote}
 -- an empty row has nothing open
 empty-shuts : (rows : List ℕ) (s a : ℕ) → getD rows s 0 ≡ 0 → open-in rows s a ≡ true → ⊥
 empty-shuts rows s a empty is-open = both-ways (bit 0 a) (bit-beyond 0 0 a (omega arith) (omega arith)) (subst (λ x. bit x a ≡ true) empty is-open)
+
+-- a state that does not last has nothing open
+pub down-row : (m : Meaning) → Within m → (held : List Bool) → Greatest m held → (s : ℕ) → held-in held s ≡ false → row-from m held s ≡ 0
+down-row m within held great s down =
+    ⊎-elim
+    (λ e. e)
+    (λ some.
+    let w = pack-some (stays m (held-in held) s) (settings m) some in
+    absurd (both-ways (held-in held s) down (greatest-closed m held great s (w .0) (stays-decides m within (held-in held) s (w .0) .0 (w .2)))))
+    (cases-eq (row-from m held s) 0)
 
 module _ (m : Meaning) (within : Within m) where
   abbrev held : List Bool
@@ -141,6 +151,7 @@ module _ (m : Meaning) (within : Within m) where
         starts = starts-open all;
         hope = (held-in held, great .lasts, starts-held all);
         number = size;
+        few = let h = states-length (m .lines) (rows-of m) (states m) in omega arith;
         rules = wrote .places;
         standing = subst (λ xs. Rattle.rules.specs.Listing.Lists-standing (m .bits) (m .lines) (rows-of m) xs) (sym first) (lists-standing (m .lines) (rows-of m) (m .bits));
         read-back = subst (λ xs. Reads-back m (rows-of m) xs) (sym first) rows-read-back;

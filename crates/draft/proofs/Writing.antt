@@ -1,11 +1,11 @@
 -- Lists written one after another into lent places. Assumes nothing.
-use Prim.Native.Nat.{ℕ, suc, _+_, _-_, _<_, _≤_}
+use Prim.Native.Nat.{ℕ, _+_, _<_, _≤_}
 use native.Mathlib.Numerals.{add-one}
 use native.Mathlib.Omega.{arith}
-use lib.ListN.{length, getD, set, take, drop}
+use lib.ListN.{length, set, take, drop}
 use mathlib.Core.List.{List, [], _∷_, _++_}
-use mathlib.Core.Path.{_≡_, refl, sym, ap, ap₂, subst, _∙_}
-use Rattle.std.proofs.shelf.Lists.{append-assoc, append-nil, length-append, length-drop, length-take-le, take-append-drop, take-at, drop-at, drop-drop, set-split}
+use mathlib.Core.Path.{_≡_, sym, ap, ap₂, subst, _∙_}
+use Rattle.std.proofs.shelf.Lists.{append-assoc, length-append, length-take-le, take-append-drop, take-at, drop-at, drop-drop, set-split}
 use Rattle.rules.specs.Listing.{concat-below}
 use Rattle.draft.specs.Writing.{Wrote}
 
@@ -15,17 +15,6 @@ module _ {X : Type 0} where
 
   pub wrote-one : (before : List X) (at : ℕ) (x : X) → at < length before → Wrote before (set before at x) at (at + 1) (x ∷ [])
   wrote-one before at x lt = record { ends = omega arith; places = set-split before at x lt ∙ ap (λ k. take at before ++ (x ∷ drop k before)) (sym (add-one at)) }
-
-  -- the places have not changed in number
-  pub wrote-length : (before after : List X) (at end : ℕ) (xs : List X) → end ≤ length before → Wrote before after at end xs → length after ≡ length before
-  wrote-length before after at end xs fits w =
-      let all = ap length (w .places) in
-      let a = length-append (take at before) (xs ++ drop end before) in
-      let b = length-append xs (drop end before) in
-      let t = length-take-le at before (let e = w .ends in omega arith) in
-      let d = length-drop end before in
-      let e = w .ends in
-      omega arith
 
   pub wrote-more : (before mid after : List X) (at m end : ℕ) (xs ys : List X) → m ≤ length before → Wrote before mid at m xs → Wrote mid after m end ys → Wrote before after at end (xs ++ ys)
   wrote-more before mid after at m end xs ys fits w v =

@@ -34,13 +34,14 @@ pub record Went-through (m : Meaning) (rows : List ℕ) (before after : List Rul
   pub starts : (t : ℕ) → m .start t ≡ true → (a : ℕ) × (open-in rows t a ≡ true)
   pub hope : (L : ℕ → Bool) × Lasting m L × Holds-starts m L
   pub number : n ≡ length (rules-of (m .bits) (m .lines) rows)
+  pub few : n ≤ places-needed m
   pub rules : after ≡ rules-of (m .bits) (m .lines) rows ++ drop n before
   pub standing : Lists-standing (m .bits) (m .lines) rows (take n after)
   pub read-back : Reads-back m rows (take n after)
   pub faithful : Faithful m (take n after)
   pub law : Keeps-law m (take n after)
 
--- start t is the lowest whose row is empty, no lasting set holds every start, and the rules are as before
+-- (10) start t is the lowest whose row is empty, no lasting set holds every start, and the rules are as before
 pub record Turned-away (m : Meaning) (rows : List ℕ) (before after : List Rule) (t : ℕ) : Type 0 where
   pub filled : Filled m rows
   pub lost : Lost m rows t
@@ -54,7 +55,7 @@ Answered m rows before after (Err (RowCount needed)) = ⊥
 Answered m rows before after (Err (RulePlaces needed)) = ⊥
 Answered m rows before after (Err (LostStart t)) = Turned-away m rows before after t
 
--- the memory is tested first, the rows before the places for rules; what has a wrong length is left alone
+-- the memory is tested first, the rows (11) before the places for rules (11); what has a wrong length is left alone
 pub record Drafted (m : Meaning) (rows rows′ : List ℕ) (rules rules′ : List Rule) (r : Result ℕ DraftFault) : Type 0 where
   pub wrong-rows : (length rows ≡ states m → ⊥) → (r ≡ Err (RowCount (states m))) × (rows′ ≡ rows) × (rules′ ≡ rules)
   pub few-places : length rows ≡ states m → length rules < places-needed m → (r ≡ Err (RulePlaces (places-needed m))) × (rows′ ≡ rows) × (rules′ ≡ rules)

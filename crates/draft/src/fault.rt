@@ -1,18 +1,16 @@
 // Why a draft is turned away.
 ghost use mathlib.Core.Path.{_≡_};
 ghost use Rattle.draft.specs.Faults.{draft-refusal};
-ghost use Rattle.draft.specs.declared.fault.DraftFault.the-variants.{RowCount};
 use refusal::Layer;
 use refusal::Refusal;
-use sweep::WrongLength;
 
 #[derive(Clone, Copy, PartialEq, Eq, Debug)]
 pub enum DraftFault {
-    // The rows lent are not one for each state.
+    // 11, the length needed: the rows lent are not one for each state.
     RowCount { needed: usize },
-    // The places lent for rules may not suffice.
+    // 11, the length needed: the places lent for rules may not suffice.
     RulePlaces { needed: usize },
-    // No setting of this start can be kept safe for ever; it is the lowest such start.
+    // 10, the state: no setting of this start can be kept safe for ever; it is the lowest such start.
     LostStart { state: u32 },
 }
 
@@ -31,16 +29,6 @@ impl DraftFault {
             number,
             place,
             layer,
-        }
-    }
-}
-
-pub impl From<WrongLength> for DraftFault as DraftFaultFromWrongLength {
-    ghost converts = { λ f r. r ≡ RowCount (f .needed) };
-
-    fn from(wrong: WrongLength) -> DraftFault {
-        DraftFault::RowCount {
-            needed: wrong.needed,
         }
     }
 }

@@ -2,6 +2,7 @@
 ghost use mathlib.Core.Path.{_≡_};
 ghost use lib.ListN.{length};
 ghost use Prim.Native.Nat.{_≤_};
+ghost use Rattle.std.specs.Vec.{made};
 ghost use Rattle.plant.specs.Meaning.{states};
 ghost use Rattle.draft.specs.Outcome.{Answered, Drafted};
 ghost use Rattle.draft.specs.Room.{Room};
@@ -13,7 +14,6 @@ mod rows;
 
 pub use fault::DraftFault;
 pub use fault::DraftFaultDebug;
-pub use fault::DraftFaultFromWrongLength;
 pub use fault::DraftFaultPartialEq;
 use listing::write_rules;
 use plant::Plant;
@@ -46,7 +46,7 @@ fn draft_in_room<P: Plant>(
     requires { ⌜ length (now rows) ≡ states (meaning (now plant)) ⌝ ∗ ⌜ places-needed (meaning (now plant)) ≤ length (now rules) ⌝ }
     ensures { λ r. ⌜ Answered (meaning (now (plant .entry))) (now (rows .exit)) (now (rules .entry)) (now (rules .exit)) r ⌝ }
 {
-    fill_rows(plant, rows)?;
+    fill_rows(plant, rows);
     if let Some(state) = lost_start(plant, rows) {
         return Err(DraftFault::LostStart { state });
     }
@@ -56,7 +56,8 @@ fn draft_in_room<P: Plant>(
 // Fills the rows with the largest safe assignment and, where every start lasts, writes its rules
 // by state, line and prefix. The number of rules.
 pub fn draft<P: Plant>(plant: &P, rows: &mut [Row], rules: &mut [Rule]) -> Result<usize, DraftFault>
-    ensures { λ r. ⌜ Drafted (meaning (now (plant .entry))) (now (rows .entry)) (now (rows .exit)) (now (rules .entry)) (now (rules .exit)) r ⌝ }
+    ensures outcome { λ r. ⌜ Drafted (meaning (now (plant .entry))) (now (rows .entry)) (now (rows .exit)) (now (rules .entry)) (now (rules .exit)) r ⌝ }
+    ensures within { λ r. ⌜ made r (λ n. n ≤ length (now (rules .exit))) ⌝ }
 {
     check_room(plant, rows.len(), rules.len())?;
     draft_in_room(plant, rows, rules)

@@ -1,18 +1,15 @@
 // The rules of a draft, written into lent places.
 ghost use mathlib.Core.Path.{_≡_};
-ghost use mathlib.Core.Bool.{_&&_};
-ghost use Prim.Native.Nat.{_+_, _-_, _*_, _%_, _^_, _<_, _≤_};
-ghost use lib.Dec.{eqb};
+ghost use Prim.Native.Nat.{_+_, _-_, _^_, _<_, _≤_};
 ghost use lib.ListN.{length};
 ghost use Rattle.std.specs.Vec.{listOf};
 ghost use Rattle.plant.specs.Meaning.{states, most-bits, most-lines};
-ghost use Rattle.plant.specs.Bits.{bit};
-ghost use Rattle.plant.specs.Tests.{same};
-ghost use Rattle.rules.specs.Listing.{some-open, rule-at, rules-of-line, rules-of-state, rules-of};
+ghost use Rattle.rules.specs.Listing.{goes-on, some-open, rule-at, rules-of-line, rules-of-state, rules-of};
 ghost use Rattle.draft.specs.Rows.{places-needed};
 ghost use Rattle.draft.specs.Writing.{Wrote};
 use plant::Plant;
 use plant::Row;
+use plant::has_bit;
 use rules::Rule;
 
 // 2 to the power k.
@@ -23,18 +20,10 @@ fn two_to(k: u32) -> u32
     1 << k
 }
 
-// Whether bit `i` of `x` is 1.
-fn has_bit(x: u32, i: u32) -> bool
-    requires { ⌜ i < 2 ^ most-lines ⌝ }
-    ensures { λ r. ⌜ r ≡ bit x i ⌝ }
-{
-    (x >> i) % 2 == 1
-}
-
 // Whether setting `a` begins with `prefix` on the lines below `line`, and has `line` at `value`.
 fn goes_on(a: u32, line: u32, prefix: u32, value: bool) -> bool
     requires { ⌜ line < most-lines ⌝ }
-    ensures { λ r. ⌜ r ≡ (eqb (a % 2 ^ line) prefix && same (bit a line) value) ⌝ }
+    ensures { λ r. ⌜ r ≡ goes-on a line prefix value ⌝ }
 {
     a % two_to(line) == prefix && has_bit(a, line) == value
 }

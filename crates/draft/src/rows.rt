@@ -2,15 +2,14 @@
 ghost use mathlib.Core.Path.{_≡_};
 ghost use Prim.Native.Nat.{_+_, _^_, _<_};
 ghost use lib.ListN.{length};
-ghost use Rattle.std.specs.declared.result.Result.the-variants.{Ok};
 ghost use Rattle.std.specs.Options.{Cases as BySome};
 ghost use Rattle.plant.specs.Meaning.{states, most-lines};
+ghost use Rattle.sweep.specs.Greatest.{Greatest};
 ghost use Rattle.draft.specs.Rows.{row-from, rows-from, rows-of};
 ghost use Rattle.draft.specs.Starts.{Lost, All-open};
 use plant::MAX_STATES;
 use plant::Plant;
 use plant::Row;
-use sweep::WrongLength;
 use sweep::lasting_states;
 use sweep::pair_stays;
 
@@ -35,27 +34,37 @@ fn open_row<P: Plant>(plant: &P, held: &[bool], state: u32) -> Row
     row
 }
 
+// The row of a state, given the flags of the states that last. The plant is asked only where the flag is up:
+// a state that does not last has nothing open.
+fn row_of<P: Plant>(plant: &P, held: &[bool], state: u32) -> Row
+    requires { ⌜ Greatest (meaning (now plant)) (now held) ⌝ ∗ ⌜ state < states (meaning (now plant)) ⌝ }
+    ensures { λ r. ⌜ r ≡ row-from (meaning (now (plant .entry))) (now (held .entry)) state ⌝ }
+{
+    if !held[state as usize] {
+        return 0;
+    }
+    open_row(plant, held, state)
+}
+
 // Writes the row of each state, given the flags of the states that last.
 fn write_rows<P: Plant>(plant: &P, held: &[bool], rows: &mut [Row])
-    requires { ⌜ length (now rows) ≡ states (meaning (now plant)) ⌝ }
+    requires { ⌜ length (now rows) ≡ states (meaning (now plant)) ⌝ ∗ ⌜ Greatest (meaning (now plant)) (now held) ⌝ }
     ensures { λ _. ⌜ now (rows .exit) ≡ rows-from (meaning (now (plant .entry))) (now (held .entry)) ⌝ }
 {
     for s in 0..plant.states() {
-        rows[s as usize] = open_row(plant, held, s);
+        rows[s as usize] = row_of(plant, held, s);
     }
 }
 
 // Fills the rows with the largest safe assignment of the plant.
-pub(crate) fn fill_rows<P: Plant>(plant: &P, rows: &mut [Row]) -> Result<(), WrongLength>
+pub(crate) fn fill_rows<P: Plant>(plant: &P, rows: &mut [Row])
     requires { ⌜ length (now rows) ≡ states (meaning (now plant)) ⌝ }
-    ensures answer { λ r. ⌜ r ≡ Ok tt ⌝ }
-    ensures rows { λ _. ⌜ now (rows .exit) ≡ rows-of (meaning (now (plant .entry))) ⌝ }
+    ensures { λ _. ⌜ now (rows .exit) ≡ rows-of (meaning (now (plant .entry))) ⌝ }
 {
     let mut flags = [false; MAX_STATES];
     let held = &mut flags[0..rows.len()];
-    lasting_states(plant, held)?;
+    let _ = lasting_states(plant, held);
     write_rows(plant, held, rows);
-    Ok(())
 }
 
 // The lowest start whose row is empty.

@@ -1,16 +1,17 @@
 -- Bits of numbers, over any width. Assumes nothing.
 use Prim.Native.Nat.{ℕ, zero, suc, _+_, _-_, _*_, _/_, _%_, _^_, _<_, _≤_}
-use native.Mathlib.Nat.{pow-suc, add-mul-mod-self-right, mul-assoc, mul-comm, mod-lt, div-eq-of-lt, mod-eq-of-lt, add-comm, zero-add}
+use native.Mathlib.Nat.{pow-suc, add-mul-mod-self-right, mul-assoc, mod-lt, div-eq-of-lt, mod-eq-of-lt, add-comm, zero-add, mod-one}
 use native.Mathlib.Numerals.{one-add}
 use native.Mathlib.Omega.{arith}
 use lib.Arith.{digits-div}
+use lib.Bits.{bitAnd, bitOr}
 use lib.Dec.{eqb}
-use lib.Pow.{pow-pos, pow-mono, pow-add}
-use mathlib.Core.Bool.{Bool, true, false, cond}
+use lib.Pow.{pow-mono, pow-add}
+use mathlib.Core.Bool.{Bool, true, false, cond, _&&_, _||_}
 use mathlib.Core.Logic.{⊎-elim}
 use mathlib.Core.Path.{_≡_, refl, sym, ap, ap₂, subst, _∙_}
-use Rattle.std.proofs.shelf.Bits.{field-of, mod-pow-add}
-use Rattle.std.proofs.shelf.Tests.{eqb-true, eqb-false, eq-eqb, both-ways, cases-eq, cases-bool, false≢true}
+use Rattle.std.proofs.shelf.Bits.{field-of, mod-pow-add, or-shr, or-mod, and-shr, and-mod}
+use Rattle.std.proofs.shelf.Tests.{eqb-true, eqb-false, cases-eq}
 use Rattle.plant.specs.Bits.{bit, pack}
 
 abbrev digit : Bool → ℕ
@@ -108,3 +109,50 @@ pack-some p (suc n) some = at-top (p n) refl (pack-some p n)
     at-top false e below =
         let w = below (λ none. some (ap (λ b. cond b (2 ^ n) 0 + pack p n) e ∙ zero-add (pack p n) ∙ none)) in
         (w .0, omega (arith, w .1), w .2)
+
+digit-or : (u v : Bool) → eqb (bitOr (digit u) (digit v)) 1 ≡ (u || v)
+digit-or true true = refl
+digit-or true false = refl
+digit-or false true = refl
+digit-or false false = refl
+
+digit-and : (u v : Bool) → eqb (bitAnd (digit u) (digit v)) 1 ≡ (u && v)
+digit-and true true = refl
+digit-and true false = refl
+digit-and false true = refl
+digit-and false false = refl
+
+-- the bits of an or, and of an and
+pub bit-or : (x y i : ℕ) → bit (bitOr x y) i ≡ (bit x i || bit y i)
+bit-or x y i =
+    ap (λ z. eqb (z % 2) 1) (or-shr x y i) ∙ ap (λ z. eqb z 1) (or-mod (x / 2 ^ i) (y / 2 ^ i) 1) ∙
+    ap₂ (λ d e. eqb (bitOr d e) 1) (bit-digit x i) (bit-digit y i) ∙ digit-or (bit x i) (bit y i)
+
+pub bit-and : (x y i : ℕ) → bit (bitAnd x y) i ≡ (bit x i && bit y i)
+bit-and x y i =
+    ap (λ z. eqb (z % 2) 1) (and-shr x y i) ∙ ap (λ z. eqb z 1) (and-mod (x / 2 ^ i) (y / 2 ^ i) 1) ∙
+    ap₂ (λ d e. eqb (bitAnd d e) 1) (bit-digit x i) (bit-digit y i) ∙ digit-and (bit x i) (bit y i)
+
+-- a number is packed of its bits
+pack-bits : (x n : ℕ) → pack (bit x) n ≡ x % 2 ^ n
+pack-bits x zero = sym (mod-one x)
+pack-bits x (suc n) =
+    ap₂ (λ d r. d + r) (top (bit x n) refl) (pack-bits x n) ∙ sym (mod-pow-add x 1 n) ∙ ap (λ k. x % 2 ^ k) (one-add n)
+  where
+    top : (t : Bool) → bit x n ≡ t → cond t (2 ^ n) 0 ≡ (x / 2 ^ n % 2) * 2 ^ n
+    top true e = let d = bit-digit-by x n true e in subst (λ k. 2 ^ n ≡ k * 2 ^ n) (sym d) (omega arith)
+    top false e = let d = bit-digit-by x n false e in subst (λ k. 0 ≡ k * 2 ^ n) (sym d) (omega arith)
+
+pack-same : (p q : ℕ → Bool) (n : ℕ) → ((i : ℕ) → i < n → p i ≡ q i) → pack p n ≡ pack q n
+pack-same p q zero same = refl
+pack-same p q (suc n) same = ap₂ (λ b r. cond b (2 ^ n) 0 + r) (same n (omega arith)) (pack-same p q n (λ i lt. same i (omega arith)))
+
+-- numbers below 2 ^ n with the same bits are the same
+pub same-bits : (x y n : ℕ) → x < 2 ^ n → y < 2 ^ n → ((i : ℕ) → i < n → bit x i ≡ bit y i) → x ≡ y
+same-bits x y n x-small y-small same =
+    sym (mod-eq-of-lt x-small) ∙ sym (pack-bits x n) ∙ pack-same (bit x) (bit y) n same ∙ pack-bits y n ∙ mod-eq-of-lt y-small
+
+-- a number lies below a power of two
+pub below-pow : (n : ℕ) → n < 2 ^ n
+below-pow zero = omega arith
+below-pow (suc n) = let h = below-pow n in let e = pow-suc 2 n in omega arith

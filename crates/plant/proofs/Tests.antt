@@ -1,12 +1,13 @@
 -- Tests over truth values and lists, in words. Assumes nothing.
-use Prim.Native.Nat.{ℕ, suc, _<_}
+use Prim.Native.Nat.{ℕ, suc, _+_, _<_, _≤_}
 use native.Mathlib.Omega.{arith}
-use lib.ListN.{length, getD}
-use mathlib.Core.Bool.{Bool, true, false}
+use lib.ListN.{length, getD, drop}
+use mathlib.Core.Bool.{Bool, true, false, _&&_, _||_}
 use mathlib.Core.List.{List, [], _∷_, List·Memᴰ, List·Memᴰ·head, List·Memᴰ·tail, List·Memᴰ·not-nil, List·Memᴰ·cases-cons}
 use mathlib.Core.Logic.{⊎-elim}
-use mathlib.Core.Path.{_≡_, refl, sym, subst}
+use mathlib.Core.Path.{_≡_, refl, sym, ap, subst, _∙_}
 use Rattle.std.specs.Orderings.{Decides}
+use Rattle.std.proofs.shelf.Lists.{at-drop-more, at-drop-all}
 use Rattle.std.proofs.shelf.Tests.{and-from, and-parts, or-cases, or-left, or-right, false≢true}
 use Rattle.plant.specs.Tests.{same, all-of, some-of}
 
@@ -50,3 +51,25 @@ some-fits p q [] all some = absurd (false≢true some)
 some-fits p q (x ∷ xs) all some =
     let parts = and-parts (p x) (all-of p xs) all in
     ⊎-elim (λ here. (x, parts .0, here)) (λ later. some-fits p q xs (parts .1) later) (or-cases (q x) (some-of q xs) some)
+
+-- a loop over the list: those seen so far decide nothing, so those left decide
+module _ {X : Type 0} (p : X → Bool) (xs : List X) (i : ℕ) (d : X) where
+  pub all-next : all-of p (drop i xs) ≡ all-of p xs → i < length xs → p (getD xs i d) ≡ true → all-of p (drop (i + 1) xs) ≡ all-of p xs
+  all-next inv lt passes = sym (ap (λ b. b && all-of p (drop (i + 1) xs)) passes) ∙ sym (at-drop-more (all-of p) xs i d lt) ∙ inv
+
+  pub all-broken : all-of p (drop i xs) ≡ all-of p xs → i < length xs → p (getD xs i d) ≡ false → false ≡ all-of p xs
+  all-broken inv lt fails = sym (ap (λ b. b && all-of p (drop (i + 1) xs)) fails) ∙ sym (at-drop-more (all-of p) xs i d lt) ∙ inv
+
+  pub some-next : some-of p (drop i xs) ≡ some-of p xs → i < length xs → p (getD xs i d) ≡ false → some-of p (drop (i + 1) xs) ≡ some-of p xs
+  some-next inv lt fails = sym (ap (λ b. b || some-of p (drop (i + 1) xs)) fails) ∙ sym (at-drop-more (some-of p) xs i d lt) ∙ inv
+
+  pub some-found : some-of p (drop i xs) ≡ some-of p xs → i < length xs → p (getD xs i d) ≡ true → true ≡ some-of p xs
+  some-found inv lt passes = sym (ap (λ b. b || some-of p (drop (i + 1) xs)) passes) ∙ sym (at-drop-more (some-of p) xs i d lt) ∙ inv
+
+-- at the end of the list
+module _ {X : Type 0} (p : X → Bool) (xs : List X) (i : ℕ) where
+  pub all-over : all-of p (drop i xs) ≡ all-of p xs → length xs ≤ i → true ≡ all-of p xs
+  all-over inv past = sym (at-drop-all (all-of p) xs i past) ∙ inv
+
+  pub some-over : some-of p (drop i xs) ≡ some-of p xs → length xs ≤ i → false ≡ some-of p xs
+  some-over inv past = sym (at-drop-all (some-of p) xs i past) ∙ inv

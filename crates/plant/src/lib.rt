@@ -3,6 +3,10 @@ ghost use mathlib.Core.Path.{_≡_};
 ghost use Prim.Native.Nat.{_^_};
 ghost use Rattle.plant.specs.Meaning.{Meaning, Within};
 
+mod digits;
+
+pub use digits::has_bit;
+
 // The most state bits that a plant may have.
 pub const MAX_STATE_BITS: u32 = 8;
 

@@ -6,7 +6,7 @@ use Rattle.std.specs.Results.{isOk}
 use Rattle.plant.specs.Meaning.{Meaning}
 use Rattle.rules.specs.declared.Rule.{Rule}
 use Rattle.reader.specs.Law.{Event, taken-calls, tells, told-from}
-use Rattle.reader.specs.Step.{Answer, answer, after}
+use Rattle.reader.specs.Step.{answer, after}
 use Rattle.reader.specs.Strings.{answers, phase-after, happened}
 use Rattle.reader.specs.declared.call.Call.{Call}
 use Rattle.reader.specs.declared.phase.Phase.{Phase}
@@ -42,7 +42,3 @@ module _ (m : Meaning) (rs : List Rule) where
   pub phase-push : (calls : List Call) (p : Phase) (c : Call) → phase-after m rs p (calls ++ (c ∷ [])) ≡ after m rs (phase-after m rs p calls) c
   phase-push [] p c = refl
   phase-push (d ∷ ds) p c = phase-push ds (after m rs p d) c
-
-  pub session-push : (calls : List Call) (p : Phase) (c : Call) → session-from p (calls ++ (c ∷ [])) ≡ session-from p calls ++ (record { call = c; taken = isOk (answer m rs (phase-after m rs p calls) c) } ∷ [])
-  session-push [] p c = refl
-  session-push (d ∷ ds) p c = ap (λ xs. record { call = d; taken = isOk (answer m rs p d) } ∷ xs) (session-push ds (after m rs p d) c)

@@ -40,12 +40,12 @@ told-from p (c ∷ cs) = told-from (tells p c) cs
 abbrev pub told : List Event → Phase
 told es = told-from Closed (taken-calls es)
 
--- when a call is to be taken, by the phase before it
-abbrev pub Due : Meaning → Phase → Call → Type 0
-Due m p (Begin t) = (p ≡ Closed) × (m .start t ≡ true)
-Due m p (Set a) = (s : ℕ) × (p ≡ Poised s) × Open m s a
-Due m p (See t) = (s : ℕ) × (a : ℕ) × (p ≡ Driven s a) × (m .follows s a t ≡ true)
-Due m p Close = p ≡ Closed → ⊥
+-- when a call is permitted, by the phase before it
+abbrev pub Permitted : Meaning → Phase → Call → Type 0
+Permitted m p (Begin t) = (p ≡ Closed) × (m .start t ≡ true)
+Permitted m p (Set a) = (s : ℕ) × (p ≡ Poised s) × Open m s a
+Permitted m p (See t) = (s : ℕ) × (a : ℕ) × (p ≡ Driven s a) × (m .follows s a t ≡ true)
+Permitted m p Close = p ≡ Closed → ⊥
 
 -- what happened since a new reader, and the phase after it, keep the law
 pub record Lawful (m : Meaning) (events : List Event) (phase : Phase) : Type 0 where
@@ -53,7 +53,7 @@ pub record Lawful (m : Meaning) (events : List Event) (phase : Phase) : Type 0 w
   pub phase-told : phase ≡ told events
   -- every setting that was taken was safe where it was taken
   pub safe : (front back : List Event) (a : ℕ) → events ≡ front ++ (record { call = Set a; taken = true } ∷ back) → (s : ℕ) × (told front ≡ Poised s) × (m .safe s a ≡ true)
-  -- each call was taken exactly when it was due
-  pub exactly : (front back : List Event) (e : Event) → events ≡ front ++ (e ∷ back) → Decides (e .taken) (Due m (told front) (e .call))
-  -- when a setting is due, there is one to be taken
-  pub some-setting : (s : ℕ) → phase ≡ Poised s → (a : ℕ) × Due m phase (Set a)
+  -- each call was taken exactly when it was permitted
+  pub exactly : (front back : List Event) (e : Event) → events ≡ front ++ (e ∷ back) → Decides (e .taken) (Permitted m (told front) (e .call))
+  -- when poised, some setting is permitted
+  pub some-setting : (s : ℕ) → phase ≡ Poised s → (a : ℕ) × Permitted m phase (Set a)

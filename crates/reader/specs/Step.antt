@@ -23,27 +23,23 @@ Answer = Result (Unit {0}) LogFault
 abbrev pub fits-there : Meaning → List Rule → ℕ → ℕ → Bool
 fits-there m rs s a = fits (m .bits) (m .lines) rs s a
 
--- a number below the size that passes the test is taken; else it is beyond the size, or fails by this fault
-abbrev pub offered : ℕ → ℕ → Bool → LogFault → Answer
-offered size k test fault = cond (ltb k size) (cond test (Ok tt) (Err fault)) (Err (BeyondSizes k))
+-- a number below the size that passes the test is taken, with x; else it is beyond the size, or fails by this fault
+abbrev pub offered : {X : Type 0} → ℕ → ℕ → Bool → LogFault → X → Result X LogFault
+offered size k test fault x = cond (ltb k size) (cond test (Ok x) (Err fault)) (Err (BeyondSizes k))
 
--- the same with the phase that a taken call leads to
-abbrev pub led : ℕ → ℕ → Bool → LogFault → Phase → Result Phase LogFault
-led size k test fault next = cond (ltb k size) (cond test (Ok next) (Err fault)) (Err (BeyondSizes k))
-
--- the answer, by phase and call together
+-- the answer, by phase and call together: out of turn (15), beyond the size (12), no start (16), misfit (17), not following (18)
 abbrev pub answer : Meaning → List Rule → Phase → Call → Answer
-answer m rs Closed (Begin t) = offered (states m) t (m .start t) (NoStart t)
+answer m rs Closed (Begin t) = offered (states m) t (m .start t) (NoStart t) tt
 answer m rs Closed (Set a) = Err (OutOfTurn Closed)
 answer m rs Closed (See t) = Err (OutOfTurn Closed)
 answer m rs Closed Close = Err (OutOfTurn Closed)
 answer m rs (Poised s) (Begin t) = Err (OutOfTurn (Poised s))
-answer m rs (Poised s) (Set a) = offered (settings m) a (fits-there m rs s a) (Misfit a)
+answer m rs (Poised s) (Set a) = offered (settings m) a (fits-there m rs s a) (Misfit a) tt
 answer m rs (Poised s) (See t) = Err (OutOfTurn (Poised s))
 answer m rs (Poised s) Close = Ok tt
 answer m rs (Driven s a) (Begin t) = Err (OutOfTurn (Driven s a))
 answer m rs (Driven s a) (Set b) = Err (OutOfTurn (Driven s a))
-answer m rs (Driven s a) (See t) = offered (states m) t (m .follows s a t) (NotFollowing t)
+answer m rs (Driven s a) (See t) = offered (states m) t (m .follows s a t) (NotFollowing t) tt
 answer m rs (Driven s a) Close = Ok tt
 
 -- the phase after, by phase and call together

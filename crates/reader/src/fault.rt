@@ -9,15 +9,15 @@ use refusal::Refusal;
 
 #[derive(Clone, Copy, PartialEq, Eq, Debug)]
 pub enum LogFault {
-    // The call is not due in this phase.
+    // 15, 0 to 2 for the phase: the call is out of turn.
     OutOfTurn { phase: Phase },
-    // The number offered names no state, or no setting, of the plant.
+    // 12, the number: it names no state, or no setting, of the plant.
     BeyondSizes { number: u32 },
-    // The state is no start.
+    // 16, the state: it is no start.
     NoStart { state: u32 },
-    // The setting breaks a rule.
+    // 17, the setting: it breaks a rule.
     Misfit { setting: u32 },
-    // The state does not follow the pair.
+    // 18, the state: it does not follow the pair.
     NotFollowing { state: u32 },
 }
 

@@ -5,9 +5,7 @@ mod phase;
 mod reader;
 
 pub use call::Call;
-pub use call::CallDebug;
 pub use call::CallDisplay;
-pub use call::CallPartialEq;
 pub use fault::LogFault;
 pub use fault::LogFaultDebug;
 pub use fault::LogFaultPartialEq;
@@ -15,4 +13,7 @@ pub use phase::Phase;
 pub use phase::PhaseDebug;
 pub use phase::PhaseDisplay;
 pub use phase::PhasePartialEq;
+pub use reader::AnswerPlaces;
+pub use reader::AnswerPlacesDebug;
+pub use reader::AnswerPlacesPartialEq;
 pub use reader::Reader;

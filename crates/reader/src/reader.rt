@@ -1,13 +1,9 @@
 // The reader of a session.
 ghost use mathlib.Core.Path.{_≡_};
-ghost use mathlib.Core.List.{[]};
-ghost use Prim.Native.Nat.{_≤_};
 ghost use lib.ListN.{length};
-ghost use Rattle.std.specs.Of.Vec.{vec-items, vec-len, vec-cap};
-ghost use Rattle.std.specs.Results.{Cases};
 ghost use Rattle.plant.specs.Meaning.{states, settings};
-ghost use Rattle.reader.specs.Step.{answer, after, led, fits-there};
-ghost use Rattle.reader.specs.Outcome.{Ran};
+ghost use Rattle.reader.specs.Step.{answer, after, offered, fits-there};
+ghost use Rattle.reader.specs.Outcome.{Ran, Run};
 ghost use Rattle.reader.specs.declared.call.Call.the-variants.{Begin, Set, See, Close};
 ghost use Rattle.reader.specs.declared.fault.LogFault.the-variants.{NoStart, Misfit, NotFollowing};
 ghost use Rattle.reader.specs.declared.phase.Phase.the-variants.{Closed, Poised, Driven};
@@ -19,8 +15,12 @@ use crate::phase::PhasePartialEq;
 use plant::Plant;
 use rules::Rule;
 use rules::fits;
-use std::alloc::AllocError;
-use std::alloc::Global;
+
+// The places lent for answers are not one for each call: so many are needed.
+#[derive(Clone, Copy, PartialEq, Eq, Debug)]
+pub struct AnswerPlaces {
+    pub needed: usize,
+}
 
 #[derive(Clone, Copy, PartialEq, Eq, Debug)]
 pub struct Reader {
@@ -29,7 +29,7 @@ pub struct Reader {
 
 // The phase after a begin of `state`, where no session is open.
 fn begun<P: Plant>(plant: &P, state: u32) -> Result<Phase, LogFault>
-    ensures { λ r. ⌜ r ≡ led (states (meaning (now (plant .entry)))) state (meaning (now (plant .entry)) .start state) (NoStart state) (Poised state) ⌝ }
+    ensures { λ r. ⌜ r ≡ offered (states (meaning (now (plant .entry)))) state (meaning (now (plant .entry)) .start state) (NoStart state) (Poised state) ⌝ }
 {
     if state >= plant.states() {
         return Err(LogFault::BeyondSizes { number: state });
@@ -42,7 +42,7 @@ fn begun<P: Plant>(plant: &P, state: u32) -> Result<Phase, LogFault>
 
 // The phase after `setting` was made in `state`.
 fn driven<P: Plant>(plant: &P, rules: &[Rule], state: u32, setting: u32) -> Result<Phase, LogFault>
-    ensures { λ r. ⌜ r ≡ led (settings (meaning (now (plant .entry)))) setting (fits-there (meaning (now (plant .entry))) (now (rules .entry)) state setting) (Misfit setting) (Driven state setting) ⌝ }
+    ensures { λ r. ⌜ r ≡ offered (settings (meaning (now (plant .entry)))) setting (fits-there (meaning (now (plant .entry))) (now (rules .entry)) state setting) (Misfit setting) (Driven state setting) ⌝ }
 {
     if setting >= plant.settings() {
         return Err(LogFault::BeyondSizes { number: setting });
@@ -55,7 +55,7 @@ fn driven<P: Plant>(plant: &P, rules: &[Rule], state: u32, setting: u32) -> Resu
 
 // The phase after the machine was seen in `next`, driven by `setting` in `state`.
 fn seen<P: Plant>(plant: &P, state: u32, setting: u32, next: u32) -> Result<Phase, LogFault>
-    ensures { λ r. ⌜ r ≡ led (states (meaning (now (plant .entry)))) next (meaning (now (plant .entry)) .follows state setting next) (NotFollowing next) (Poised next) ⌝ }
+    ensures { λ r. ⌜ r ≡ offered (states (meaning (now (plant .entry)))) next (meaning (now (plant .entry)) .follows state setting next) (NotFollowing next) (Poised next) ⌝ }
 {
     if next >= plant.states() {
         return Err(LogFault::BeyondSizes { number: next });
@@ -134,35 +134,38 @@ impl Reader {
         self.make(plant, rules, Call::Close)
     }
 
-    // Makes each call in turn, and appends its answer to an empty list that has room for all of them.
+    // Makes each call in turn, and writes its answer at its place.
     fn answer_all<P: Plant>(
         &mut self,
         plant: &P,
         rules: &[Rule],
         calls: &[Call],
-        answers: &mut Vec<Result<(), LogFault>>,
+        answers: &mut [Result<(), LogFault>],
     )
-        requires { ⌜ vec-items (now answers) ≡ [] ⌝ ∗ ⌜ vec-len (now answers) ≡ 0 ⌝ ∗ ⌜ length (now calls) ≤ vec-cap (now answers) ⌝ }
-        ensures { λ _. ⌜ Ran (meaning (now (plant .entry))) (now (rules .entry)) (now (self .entry) .phase) (now (self .exit) .phase) (now (calls .entry)) (vec-items (now (answers .exit))) ⌝ }
+        requires { ⌜ length (now calls) ≡ length (now answers) ⌝ }
+        ensures { λ _. ⌜ Ran (meaning (now (plant .entry))) (now (rules .entry)) (now (self .entry) .phase) (now (self .exit) .phase) (now (calls .entry)) (now (answers .exit)) ⌝ }
     {
-        for call in calls {
-            answers.push_reserved(self.make(plant, rules, *call));
+        for (i, call) in calls.iter().enumerate() {
+            answers[i] = self.make(plant, rules, *call);
         }
     }
 
-    // Makes each call in turn, those after a refused one too, and answers each.
-    // Where there is no memory for the answers no call is made.
+    // Makes each call in turn, those after a refused one too, and writes its answer at its place.
+    // Where there is not a place for each answer, no call is made.
     pub fn run<P: Plant>(
         &mut self,
-        heap: Global,
         plant: &P,
         rules: &[Rule],
         calls: &[Call],
-    ) -> Result<Vec<Result<(), LogFault>>, AllocError>
-        ensures { λ r. ⌜ Cases r (λ v. Ran (meaning (now (plant .entry))) (now (rules .entry)) (now (self .entry) .phase) (now (self .exit) .phase) (now (calls .entry)) (vec-items v)) (λ _. now (self .exit) .phase ≡ now (self .entry) .phase) ⌝ }
+        answers: &mut [Result<(), LogFault>],
+    ) -> Result<(), AnswerPlaces>
+        ensures { λ r. ⌜ Run (meaning (now (plant .entry))) (now (rules .entry)) (now (self .entry) .phase) (now (self .exit) .phase) (now (calls .entry)) (now (answers .entry)) (now (answers .exit)) r ⌝ }
     {
-        let mut answers = Vec::with_capacity(heap, calls.len())?;
-        self.answer_all(plant, rules, calls, &mut answers);
-        Ok(answers)
+        if answers.len() != calls.len() {
+            let needed = calls.len();
+            return Err(AnswerPlaces { needed });
+        }
+        self.answer_all(plant, rules, calls, answers);
+        Ok(())
     }
 }

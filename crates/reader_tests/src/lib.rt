@@ -6,6 +6,9 @@ mod tests {
     use bench::Move;
     use draft::draft;
     use plant::Row;
+    use reader::AnswerPlaces;
+    use reader::AnswerPlacesDebug;
+    use reader::AnswerPlacesPartialEq;
     use reader::Call;
     use reader::LogFault;
     use reader::LogFaultDebug;
@@ -68,7 +71,7 @@ mod tests {
         }
     }
 
-    // Makes the calls on a new reader, and compares the last answer and the phase after it.
+    // Makes at most four calls on a new reader, and compares the last answer and the phase after it.
     fn last(
         heap: Global,
         rules: &[Rule],
@@ -78,9 +81,11 @@ mod tests {
     ) -> Result<(), Fail> {
         let plant = plant(heap)?;
         let mut reader = Reader::new();
-        let answers = reader.run(heap, &plant, rules, calls)?;
-        check_eq(answers.len(), calls.len())?;
-        check_eq(answers.last().copied(), Some(answer))?;
+        let mut answers: [Result<(), LogFault>; 4] = [Ok(()); 4];
+        check(0 < calls.len() && calls.len() <= 4)?;
+        let places = &mut answers[0..calls.len()];
+        check_eq(reader.run(&plant, rules, calls, places), Ok(()))?;
+        check_eq(answers[calls.len() - 1], answer)?;
         check_eq(reader.phase(), phase)
     }
 
@@ -127,17 +132,75 @@ mod tests {
     }
 
     #[test]
-    fn turn_comes_before_size_and_size_before_the_rest(rt: LibcRuntime) -> Result<(), Fail> {
+    fn a_run_goes_on_after_a_refusal(rt: LibcRuntime) -> Result<(), Fail> {
+        let plant = plant(rt.alloc())?;
+        let mut reader = Reader::new();
+        let mut answers: [Result<(), LogFault>; 3] = [Ok(()); 3];
+        check_eq(
+            reader.run(&plant, &[], &[SET, BEGIN, SEE], &mut answers),
+            Ok(()),
+        )?;
+        check_eq(answers, [turned(Phase::Closed), Ok(()), turned(POISED)])?;
+        check_eq(reader.phase(), POISED)
+    }
+
+    #[test]
+    fn a_run_without_a_place_for_each_answer_makes_no_call(rt: LibcRuntime) -> Result<(), Fail> {
+        let plant = plant(rt.alloc())?;
+        let mut reader = Reader::new();
+        let mut answers: [Result<(), LogFault>; 1] = [turned(DRIVEN)];
+        let few = AnswerPlaces { needed: 2 };
+        check_eq(
+            reader.run(&plant, &[], &[BEGIN, SET], &mut answers),
+            Err(few),
+        )?;
+        check_eq(answers, [turned(DRIVEN)])?;
+        check_eq(reader.phase(), Phase::Closed)
+    }
+
+    #[test]
+    fn turn_comes_before_size(rt: LibcRuntime) -> Result<(), Fail> {
         let heap = rt.alloc();
-        let far = Err(LogFault::BeyondSizes { number: 2 });
+        let far = Call::Set { setting: 2 };
+        last(heap, &[], &[far], turned(Phase::Closed), Phase::Closed)?;
         last(
             heap,
             &[],
-            &[Call::Set { setting: 2 }],
-            turned(Phase::Closed),
-            Phase::Closed,
+            &[BEGIN, Call::Begin { state: 2 }],
+            turned(POISED),
+            POISED,
         )?;
+        last(
+            heap,
+            &[],
+            &[BEGIN, Call::See { state: 2 }],
+            turned(POISED),
+            POISED,
+        )?;
+        last(heap, &[], &[BEGIN, SET, far], turned(DRIVEN), DRIVEN)
+    }
+
+    #[test]
+    fn size_comes_before_the_rest(rt: LibcRuntime) -> Result<(), Fail> {
+        // Setting 2 is beyond the one line, and would break the rule too.
+        let heap = rt.alloc();
+        let far = Err(LogFault::BeyondSizes { number: 2 });
+        let on = [rule(0, 0, 0, true)];
         last(heap, &[], &[Call::Begin { state: 2 }], far, Phase::Closed)?;
+        last(heap, &on, &[BEGIN, Call::Set { setting: 2 }], far, POISED)?;
+        last(
+            heap,
+            &[],
+            &[BEGIN, SET, Call::See { state: 2 }],
+            far,
+            DRIVEN,
+        )
+    }
+
+    #[test]
+    fn the_rest(rt: LibcRuntime) -> Result<(), Fail> {
+        let heap = rt.alloc();
+        let off = [rule(0, 0, 0, false)];
         last(
             heap,
             &[],
@@ -145,21 +208,12 @@ mod tests {
             Err(LogFault::NoStart { state: 1 }),
             Phase::Closed,
         )?;
-        last(heap, &[], &[BEGIN, Call::Set { setting: 2 }], far, POISED)?;
-        let rules = [rule(0, 0, 0, false)];
         last(
             heap,
-            &rules,
+            &off,
             &[BEGIN, Call::Set { setting: 1 }],
             Err(LogFault::Misfit { setting: 1 }),
             POISED,
-        )?;
-        last(
-            heap,
-            &[],
-            &[BEGIN, SET, Call::See { state: 2 }],
-            far,
-            DRIVEN,
         )?;
         last(
             heap,
@@ -248,66 +302,32 @@ mod tests {
         check_eq(reader.phase(), Phase::Closed)
     }
 
-    #[test]
-    fn faults_show_their_numbers() -> Result<(), Fail> {
+    fn shows(fault: LogFault, number: u32, place: usize) -> Result<(), Fail> {
         let layer = Layer::Log;
         check_eq(
-            LogFault::OutOfTurn {
-                phase: Phase::Closed,
-            }.refusal(),
+            fault.refusal(),
             Refusal {
-                number: 15,
-                place: 0,
-                layer,
-            },
-        )?;
-        check_eq(
-            LogFault::OutOfTurn { phase: POISED }.refusal(),
-            Refusal {
-                number: 15,
-                place: 1,
-                layer,
-            },
-        )?;
-        check_eq(
-            LogFault::OutOfTurn { phase: DRIVEN }.refusal(),
-            Refusal {
-                number: 15,
-                place: 2,
-                layer,
-            },
-        )?;
-        check_eq(
-            LogFault::BeyondSizes { number: 9 }.refusal(),
-            Refusal {
-                number: 12,
-                place: 9,
-                layer,
-            },
-        )?;
-        check_eq(
-            LogFault::NoStart { state: 7 }.refusal(),
-            Refusal {
-                number: 16,
-                place: 7,
-                layer,
-            },
-        )?;
-        check_eq(
-            LogFault::Misfit { setting: 6 }.refusal(),
-            Refusal {
-                number: 17,
-                place: 6,
-                layer,
-            },
-        )?;
-        check_eq(
-            LogFault::NotFollowing { state: 5 }.refusal(),
-            Refusal {
-                number: 18,
-                place: 5,
+                number,
+                place,
                 layer,
             },
         )
+    }
+
+    #[test]
+    fn faults_show_their_numbers() -> Result<(), Fail> {
+        shows(
+            LogFault::OutOfTurn {
+                phase: Phase::Closed,
+            },
+            15,
+            0,
+        )?;
+        shows(LogFault::OutOfTurn { phase: POISED }, 15, 1)?;
+        shows(LogFault::OutOfTurn { phase: DRIVEN }, 15, 2)?;
+        shows(LogFault::BeyondSizes { number: 9 }, 12, 9)?;
+        shows(LogFault::NoStart { state: 7 }, 16, 7)?;
+        shows(LogFault::Misfit { setting: 6 }, 17, 6)?;
+        shows(LogFault::NotFollowing { state: 5 }, 18, 5)
     }
 }

@@ -1,6 +1,5 @@
 // Records: one byte of kind and a body whose length the kind fixes. Plans, rule files and log files are made of them.
 ghost use mathlib.Core.Path.{_≡_};
-ghost use lib.ListN.{length};
 ghost use Rattle.records.specs.Reading.{record-at, body-length};
 ghost use Rattle.records.specs.Faults.{bytes-refusal};
 ghost use Rattle.records.specs.Ending.{Ended};
@@ -25,11 +24,11 @@ pub struct Record {
 // What is wrong with the bytes of a file.
 #[derive(Clone, Copy, PartialEq, Eq, Debug)]
 pub enum BytesFault {
-    // The input ends inside the record at this offset, or where a record should begin.
+    // 1, the offset: the input ends inside the record at this offset, or where a record should begin.
     Unfinished { offset: usize },
-    // No record of this file has the kind that stands at this offset.
+    // 2, the offset: no record of this file has the kind that stands at this offset.
     UnknownKind { offset: usize },
-    // A byte stands after the end record.
+    // 7, the offset: a byte stands after the end record.
     AfterEnd { offset: usize },
 }
 

@@ -1,14 +1,13 @@
 -- The test whether a setting fits, in words. Assumes nothing.
 use Prim.Native.Nat.{ℕ, _%_, _^_, _<_}
 use mathlib.Core.Bool.{Bool, true, false, not, _&&_}
-use mathlib.Core.List.{List, [], _∷_, List·Memᴰ, List·Memᴰ·head, List·Memᴰ·tail, List·Memᴰ·not-nil, List·Memᴰ·cases-cons}
+use mathlib.Core.List.{List, [], _∷_, List·Memᴰ·head, List·Memᴰ·tail, List·Memᴰ·not-nil, List·Memᴰ·cases-cons}
 use mathlib.Core.Path.{_≡_, refl, sym, ap, subst}
 use mathlib.Core.Logic.{⊎-elim}
-use lib.Dec.{eqb, ltb}
 use Rattle.std.specs.Orderings.{Decides}
-use Rattle.std.proofs.shelf.Tests.{and-parts, and-from, and-left, not-true, not-from-true, not-from-false, false≢true, true≢false, lt-ltb, ltb-true, eq-eqb, eqb-true, both-ways}
+use Rattle.std.proofs.shelf.Tests.{and-parts, and-from, and-left, not-true, not-from-true, not-from-false, lt-ltb, ltb-true, eq-eqb, eqb-true, both-ways}
 use Rattle.plant.specs.Bits.{bit}
-use Rattle.rules.specs.Fitting.{in-range, applies, breaks, fits, Obeys, Fits}
+use Rattle.rules.specs.Fitting.{in-range, breaks, fits, Obeys, Fits}
 use Rattle.plant.specs.Tests.{same}
 use Rattle.plant.proofs.Tests.{same-decides}
 use Rattle.rules.specs.declared.Rule.{Rule}

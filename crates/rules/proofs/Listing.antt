@@ -1,21 +1,18 @@
 -- The computed rule list has just the rules that stand, ascending. Assumes nothing.
-use Prim.Native.Nat.{ℕ, zero, suc, _+_, _-_, _*_, _%_, _^_, _<_, _≤_}
-use native.Mathlib.Nat.{pow-suc, suc-mul, mul-add}
+use Prim.Native.Nat.{ℕ, zero, suc, _-_, _*_, _^_, _<_, _≤_}
+use native.Mathlib.Nat.{pow-suc, suc-mul}
 use native.Mathlib.Omega.{arith}
-use lib.Dec.{eqb}
 use lib.ListN.{length, getD, length-append}
 use mathlib.Core.Bool.{Bool, true, false, not, _&&_, cond}
 use mathlib.Core.List.{List, [], _∷_, _++_, List·Memᴰ, List·Memᴰ·head, List·Memᴰ·tail, List·Memᴰ·not-nil, List·Memᴰ·append-cases, List·Memᴰ·eq-of-singleton, Memᴰ·append-left, Memᴰ·append-right}
-use mathlib.Core.Logic.{_⊎_, inl, inr, ⊎-elim}
+use mathlib.Core.Logic.{inl, inr, ⊎-elim}
 use mathlib.Core.Path.{_≡_, refl, sym, ap, subst, subst₂, _∙_}
 use Rattle.std.specs.Orderings.{Decides}
 use Rattle.std.proofs.shelf.Lists.{getD-append-left, getD-append-right}
 use Rattle.std.proofs.shelf.Tests.{and-parts, and-from, eqb-true, eq-eqb, cases-eq, cases-lt, both-ways, true≢false, false≢true}
 use Rattle.plant.specs.Bits.{bit}
-use Rattle.plant.specs.Bounded.{any-below}
 use Rattle.plant.proofs.Bounded.{decides-any, false-when-not}
-use Rattle.plant.specs.Tests.{same}
-use Rattle.rules.specs.Listing.{concat-below, some-open, rule-at, rules-of-line, rules-of-state, rules-of, Some-open, Stands, Before, Lists-standing}
+use Rattle.rules.specs.Listing.{goes-on, concat-below, some-open, rule-at, rules-of-line, rules-of-state, rules-of, Some-open, Stands, Before, Lists-standing}
 use Rattle.rules.specs.declared.Rule.{Rule}
 use Rattle.plant.proofs.Tests.{same-decides}
 
@@ -145,7 +142,7 @@ module _ (n : ℕ) (rows : List ℕ) where
   pub some-open-decides : (s j p : ℕ) (v : Bool) → Decides (some-open n (getD rows s 0) j p v) (Some-open n rows s j p v)
   some-open-decides s j p v =
       let row = getD rows s 0 in
-      let d = decides-any (λ a. bit row a && (eqb (a % 2 ^ j) p && same (bit a j) v)) (2 ^ n) in (
+      let d = decides-any (λ a. bit row a && goes-on a j p v) (2 ^ n) in (
         λ e.
             let w = d .0 e in
             let parts = and-parts _ _ (w .2) in

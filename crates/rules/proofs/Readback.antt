@@ -4,16 +4,16 @@ use native.Mathlib.Nat.{mod-one, mod-eq-of-lt}
 use native.Mathlib.Omega.{arith}
 use lib.ListN.{getD}
 use mathlib.Core.Bool.{Bool, true, false, not}
-use mathlib.Core.List.{List, List·Memᴰ}
+use mathlib.Core.List.{List}
 use mathlib.Core.Logic.{_⊎_, inl, inr, ⊎-elim}
-use mathlib.Core.Path.{_≡_, refl, sym, ap, subst, _∙_}
+use mathlib.Core.Path.{_≡_, refl, sym, subst, _∙_}
 use Rattle.std.proofs.shelf.Bits.{mod-below}
 use Rattle.std.proofs.shelf.Tests.{both-ways}
 use lib.Pow.{pow-pos}
 use Rattle.plant.specs.Bits.{bit}
 use Rattle.plant.proofs.Bits.{prefix-more}
 use Rattle.plant.proofs.Bounded.{same-tests}
-use Rattle.rules.specs.Fitting.{fits, Fits, Obeys}
+use Rattle.rules.specs.Fitting.{fits, Fits}
 use Rattle.rules.specs.Listing.{some-open, Some-open, Stands, Lists-standing}
 use Rattle.rules.specs.declared.Rule.{Rule}
 use Rattle.rules.proofs.Fitting.{fits-decides}

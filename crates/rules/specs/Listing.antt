@@ -16,9 +16,13 @@ abbrev pub concat-below : {X : Type 0} → (ℕ → List X) → ℕ → List X
 concat-below f zero = []
 concat-below f (suc n) = concat-below f n ++ f n
 
+-- whether setting a begins with prefix p on the lines below j, and has line j at v
+abbrev pub goes-on : ℕ → ℕ → ℕ → Bool → Bool
+goes-on a j p v = eqb (a % 2 ^ j) p && same (bit a j) v
+
 -- whether some open setting (bit a of the row is 1) begins with prefix p and has line j at v, where there are n lines
 abbrev pub some-open : ℕ → ℕ → ℕ → ℕ → Bool → Bool
-some-open n row j p v = any-below (λ a. bit row a && (eqb (a % 2 ^ j) p && same (bit a j) v)) (2 ^ n)
+some-open n row j p v = any-below (λ a. bit row a && goes-on a j p v) (2 ^ n)
 
 -- the rule for line j after prefix p, where the open settings leave line j just one value
 abbrev pub rule-at : ℕ → ℕ → ℕ → ℕ → ℕ → List Rule

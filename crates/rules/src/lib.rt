@@ -4,10 +4,10 @@ ghost use Prim.Native.Nat.{_≤_, _<_};
 ghost use Rattle.std.specs.declared.option.Option.the-variants.{Some};
 ghost use Rattle.plant.specs.Meaning.{most-lines, most-bits};
 ghost use Rattle.std.specs.Orderings.{Decides};
-ghost use Rattle.plant.specs.Bits.{bit};
 ghost use Rattle.rules.specs.Shown.{rule-line};
 ghost use Rattle.rules.specs.Fitting.{in-range, applies, breaks, fits, Fits};
 use plant::Plant;
+use plant::has_bit;
 use std::fmt;
 
 // In `state`, if the lines below `line` are set as `prefix`, then `line` has `value`.
@@ -29,14 +29,6 @@ pub impl fmt::Display for Rule as RuleDisplay {
         let value = self.value as u8;
         write!(f, "state {state} line {line} prefix {prefix} value {value}")
     }
-}
-
-// Whether the line is on in the setting.
-fn line_is_on(setting: u32, line: u32) -> bool
-    requires { ⌜ line < most-lines ⌝ }
-    ensures { λ r. ⌜ r ≡ bit setting line ⌝ }
-{
-    (setting >> line) % 2 == 1
 }
 
 impl Rule {
@@ -65,7 +57,7 @@ impl Rule {
     {
         self.in_range(state_bits, lines)
             && self.applies(state, setting)
-            && line_is_on(setting, u32::from(self.line)) != self.value
+            && has_bit(setting, u32::from(self.line)) != self.value
     }
 }
 

@@ -1,22 +1,21 @@
 -- The greatest lasting set: there is one list of its flags, and the computed one is it. Assumes nothing.
-use Prim.Native.Nat.{ℕ, zero, suc, _+_, _<_, _≤_}
+use Prim.Native.Nat.{ℕ, zero, suc, _<_, _≤_}
 use native.Mathlib.Omega.{arith}
 use mathlib.Core.Bool.{Bool, true, false, _&&_}
-use mathlib.Core.List.{List, [], _∷_, map}
+use mathlib.Core.List.{List, [], _∷_}
 use mathlib.Core.Logic.{_⊎_, inl, inr, ⊎-elim}
 use mathlib.Core.Path.{_≡_, refl, sym, ap, _∙_, subst}
-use lib.ListN.{length, getD, replicate}
+use lib.ListN.{length, replicate}
 use lib.Dec.{eqb}
-use Rattle.std.specs.Iters.{counting}
 use Rattle.std.proofs.shelf.Tests.{false≢true, and-parts, and-from, or-cases, or-left, or-right, eqb-true, eq-eqb}
-use Rattle.std.proofs.shelf.Lists.{same-lists, getD-default, length-replicate, getD-replicate, getD-past}
+use Rattle.std.proofs.shelf.Lists.{same-lists, getD-default, length-replicate, getD-replicate}
 use Rattle.std.proofs.shelf.Counted.{length-map-counting, getD-map-counting}
 use Rattle.plant.specs.Meaning.{Meaning, Within, states}
 use Rattle.plant.specs.Lasting.{Lasting, Stays}
 use Rattle.plant.proofs.Bounded.{same-tests}
 use Rattle.sweep.specs.Greatest.{Greatest, held-in, swept, sweeps, lasting-states}
 use Rattle.plant.specs.Staying.{can-stay}
-use Rattle.sweep.specs.Sweep.{up, Inside, Swept}
+use Rattle.sweep.specs.Sweep.{up, Inside}
 use Rattle.plant.proofs.Staying.{can-stay-decides}
 
 -- a state whose flag is up has a flag

@@ -4,13 +4,13 @@ use native.Mathlib.Omega.{arith}
 use borrow.Author.Count.{below-more}
 use mathlib.Core.Bool.{Bool, true, false}
 use mathlib.Core.List.{List, [], _∷_}
-use mathlib.Core.Logic.{_⊎_, inl, inr, ⊎-elim, _≢_}
-use mathlib.Core.Path.{_≡_, refl, sym, ap, _∙_, subst}
-use lib.ListN.{length, getD, set}
+use mathlib.Core.Logic.{⊎-elim}
+use mathlib.Core.Path.{_≡_, _∙_, subst}
+use lib.ListN.{length, set}
 use Rattle.std.proofs.shelf.Tests.{both-ways, cases-eq, false≢true, true≢false}
 use Rattle.std.proofs.shelf.Lists.{getD-set-other}
 use Rattle.plant.specs.Meaning.{Meaning, Within, states}
-use Rattle.plant.specs.Lasting.{Lasting, Stays}
+use Rattle.plant.specs.Lasting.{Lasting}
 use Rattle.sweep.specs.Greatest.{held-in}
 use Rattle.plant.specs.Staying.{can-stay}
 use Rattle.sweep.specs.Sweep.{up, Inside, Swept}
@@ -32,15 +32,6 @@ pub record Sweeping (m : Meaning) (before held : List Bool) (changed : Bool) (s 
   pub fewer : changed ≡ true → up held < up before
   pub same : changed ≡ false → held ≡ before
   pub stay : changed ≡ false → (k : ℕ) → k < s → held-in held k ≡ true → can-stay m (held-in held) k ≡ true
-
-pub sweeping-none : (m : Meaning) (before : List Bool) → Sweeping m before before false 0
-sweeping-none m before = record {
-  keeps = λ L lasts h. h;
-  no-more = omega arith;
-  fewer = λ e. absurd (false≢true e);
-  same = λ _. refl;
-  stay = λ _ k lt. absurd (omega arith);
-}
 
 module _ (m : Meaning) (within : Within m) (before held : List Bool) (changed : Bool) (s : ℕ) (now : Sweeping m before held changed s) where
   -- the flag of s stays as it is: it is down, or s can stay

@@ -13,7 +13,7 @@ returns-in-Some g c =
     let within = g .P·Plant .sound (c .args .plant .now) in
     let rules = c .args .rules .now in
     let t = c .in-Some .state in
-    let filled : c .fill-rows .last .rows ≡ rows-of m = c .fill-rows .ensures .rows in
+    let filled : c .fill-rows .last .rows ≡ rows-of m = c .fill-rows .ensures in
     let lost : Lost m (rows-of m) t = subst (λ rows. Lost m rows t) filled (c .in-Some .ensures tt) in
     subst (λ rows. Turned-away m rows rules rules t) (sym filled) (turned-away m within rules t lost)
 
@@ -24,7 +24,7 @@ returns g c =
     let rules = c .args .rules .now in
     let after = c .write-rules .last .rules in
     let n = c .write-rules .result in
-    let filled : c .fill-rows .last .rows ≡ rows-of m = c .fill-rows .ensures .rows in
+    let filled : c .fill-rows .last .rows ≡ rows-of m = c .fill-rows .ensures in
     let all : All-open m (rows-of m) = subst (λ rows. All-open m rows) filled (c .in-rest .ensures tt) in
     let wrote : Wrote rules after 0 n (rules-of (m .bits) (m .lines) (rows-of m)) =
     subst (λ rows. Wrote rules after 0 n (rules-of (m .bits) (m .lines) rows)) filled (c .write-rules .ensures) in

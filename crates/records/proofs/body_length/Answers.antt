@@ -1,7 +1,6 @@
-use Prim.Native.Nat.{ℕ, _+_}
+use Prim.Native.Nat.{_+_}
 use lib.ListN.{drop, getD}
-use mathlib.Core.Path.{_≡_, sym, _∙_}
-use Rattle.std.specs.declared.option.Option.{Option}
+use mathlib.Core.Path.{sym, _∙_}
 use Rattle.std.specs.declared.option.Option.the-variants.{Some}
 use Rattle.std.proofs.shelf.Lists.{at-drop-more, at-drop-all}
 use Rattle.std.proofs.shelf.Tests.{cond-true, cond-false, eq-eqb, ne-eqb}

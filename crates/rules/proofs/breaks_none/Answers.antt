@@ -1,4 +1,4 @@
-use mathlib.Core.Bool.{Bool, true, false}
+use mathlib.Core.Bool.{true, false}
 use mathlib.Core.Path.{_≡_, sym, _∙_}
 use lib.ListN.{drop, getD}
 use Prim.Native.Nat.{_+_}

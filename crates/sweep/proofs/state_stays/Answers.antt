@@ -1,7 +1,6 @@
 use borrow.Author.Count.{below-more}
 use mathlib.Core.Path.{sym}
 use native.Mathlib.Omega.{arith}
-use Prim.Native.Nat.{_≤_, _<_}
 use Rattle.plant.specs.Meaning.{settings}
 use Rattle.plant.proofs.Bounded.{any-from-none, any-from-one}
 use Rattle.sweep.specs.Greatest.{held-in}

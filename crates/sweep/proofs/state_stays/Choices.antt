@@ -1,7 +1,6 @@
 use Prim.Native.Nat.{ℕ, _<_}
 use mathlib.Core.Bool.{false}
 use mathlib.Core.Path.{_≡_}
-use Rattle.plant.specs.Bounded.{any-below}
 use Rattle.sweep.specs.Greatest.{held-in}
 use Rattle.plant.specs.Staying.{stays}
 use Rattle.sweep.proofs.state_stays.Given as given

@@ -1,23 +1,15 @@
-use Prim.Native.Nat.{ℕ, _%_, _^_, _<_, _≤_}
-use lib.Dec.{eqb}
-use lib.Pow.{pow-mono}
-use mathlib.Core.Bool.{Bool, true, _&&_}
-use mathlib.Core.Path.{_≡_, sym, ap, _∙_}
+use Prim.Native.Nat.{ℕ, _^_}
+use mathlib.Core.Bool.{Bool, _&&_}
+use mathlib.Core.Path.{sym, ap, _∙_}
 use native.Mathlib.Omega.{arith}
 use Rattle.std.proofs.shelf.Tests.{and-from}
 use Rattle.plant.specs.Bits.{bit}
-use Rattle.plant.specs.Meaning.{most-lines}
 use Rattle.plant.proofs.Bounded.{any-from-none, any-from-one}
-use Rattle.plant.specs.Tests.{same}
+use Rattle.rules.specs.Listing.{goes-on}
 use Rattle.draft.proofs.listing.some_open.Needs as need
 
 abbrev test : ℕ → ℕ → ℕ → Bool → ℕ → Bool
-test row j p v a = bit row a && (eqb (a % 2 ^ j) p && same (bit a j) v)
-
-pub has-bit-requires : need.has-bit-requires
-has-bit-requires c κs =
-    let few : 2 ^ c .args .lines ≤ 2 ^ most-lines = pow-mono (c .pre .0) in
-    omega arith
+test row j p v a = bit row a && goes-on a j p v
 
 pub returns-then-goes-on : need.returns-then-goes-on
 returns-then-goes-on c =

@@ -2,8 +2,8 @@ use Prim.Native.Nat.{ℕ, _+_, _^_, _<_, _≤_}
 use borrow.Author.Needs.{needs}
 use lib.ListN.{length, set}
 use lib.Pow.{pow-mono}
-use mathlib.Core.List.{List, []}
-use mathlib.Core.Path.{_≡_, sym, subst, subst₂}
+use mathlib.Core.List.{List}
+use mathlib.Core.Path.{sym, subst, subst₂}
 use native.Mathlib.Omega.{arith}
 use Rattle.plant.specs.Meaning.{most-lines}
 use Rattle.rules.specs.Listing.{concat-below, rule-at}

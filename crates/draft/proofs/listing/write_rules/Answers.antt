@@ -1,17 +1,14 @@
 use Prim.Native.Nat.{ℕ, suc, _+_, _-_, _*_, _^_, _<_, _≤_}
-use lib.ListN.{length, getD}
-use mathlib.Core.List.{List}
-use mathlib.Core.Path.{_≡_, ap, sym, subst, _∙_}
+use lib.ListN.{getD}
+use mathlib.Core.Path.{_≡_, ap}
 use native.Mathlib.Nat.{suc-mul, mul-le-mul-right}
 use native.Mathlib.Omega.{arith}
-use Rattle.plant.specs.Meaning.{Meaning, Within, states, settings}
+use Rattle.plant.specs.Meaning.{states, settings}
 use Rattle.plant.proofs.Sizes.{few-states}
-use Rattle.rules.specs.Listing.{concat-below, rules-of-state, rules-of}
-use Rattle.rules.specs.declared.Rule.{Rule}
+use Rattle.rules.specs.Listing.{rules-of-state}
 use Rattle.rules.proofs.Listing.{states-length}
 use Rattle.draft.specs.Rows.{places-needed}
-use Rattle.draft.specs.Writing.{Wrote}
-use Rattle.draft.proofs.Writing.{wrote-none, wrote-next}
+use Rattle.draft.proofs.Writing.{wrote-next}
 use Rattle.draft.proofs.listing.write_rules.Needs as need
 
 -- the places of state s lie within those that are needed

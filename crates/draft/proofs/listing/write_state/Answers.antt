@@ -1,10 +1,8 @@
-use Prim.Native.Nat.{ℕ, suc, _+_, _-_, _^_, _<_, _≤_}
-use lib.ListN.{length}
+use Prim.Native.Nat.{suc, _^_, _≤_}
 use lib.Pow.{pow-mono}
-use mathlib.Core.Path.{_≡_}
 use native.Mathlib.Nat.{pow-suc}
 use native.Mathlib.Omega.{arith}
-use Rattle.rules.specs.Listing.{concat-below, rules-of-line}
+use Rattle.rules.specs.Listing.{rules-of-line}
 use Rattle.rules.proofs.Listing.{lines-length}
 use Rattle.draft.proofs.Writing.{wrote-none, wrote-next}
 use Rattle.draft.proofs.listing.write_state.Needs as need

@@ -1,6 +1,6 @@
 use mathlib.Core.Path.{_≡_, sym, ap, _∙_}
 use native.Mathlib.Nat.{one-mul}
-use Prim.Native.Nat.{_*_, _%_, _^_, _+_, _<_}
+use Prim.Native.Nat.{_*_, _%_, _^_, _+_}
 use lib.Bits.{bitOr}
 use Rattle.std.proofs.shelf.Bits.{one-shl, or-comm, or-shifted}
 use Rattle.plant.specs.Meaning.{most-lines}

@@ -15,7 +15,7 @@ loop-s-again g c =
     let f = row-from m (c .args .held .now) in
     let rows = c .loop-s .rows in
     let s = c .loop-s .s in
-    subst (λ x. (k : ℕ) → k < s + 1 → getD (set rows s x) k 0 ≡ f k) (sym (c .open-row .ensures))
+    subst (λ x. (k : ℕ) → k < s + 1 → getD (set rows s x) k 0 ≡ f k) (sym (c .row-of .ensures))
     (fill-by-more f rows s 0 (omega arith) (c .loop-s .inv))
 
 pub returns : need.returns
