@@ -35,3 +35,10 @@ any-from-none p n none = false-when-not (any-below p n) (decides-any p n) (λ w.
 -- where p holds at a number below n, it holds at some
 pub any-from-one : (p : ℕ → Bool) (n k : ℕ) → k < n → p k ≡ true → any-below p n ≡ true
 any-from-one p n k lt holds = decides-any p n .1 (k, lt, holds)
+
+-- where p holds at every number below n, all pass; where it fails at one, not all do
+pub all-from-each : (p : ℕ → Bool) (n : ℕ) → ((k : ℕ) → k < n → p k ≡ true) → all-below p n ≡ true
+all-from-each p n each = decides-all p n .1 each
+
+pub all-from-one : (p : ℕ → Bool) (n k : ℕ) → k < n → p k ≡ false → all-below p n ≡ false
+all-from-one p n k lt fails = false-when-not (all-below p n) (decides-all p n) (λ each. both-ways (p k) fails (each k lt))

@@ -1,0 +1,10 @@
+use Prim.Native.Nat.{ℕ, _<_}
+use mathlib.Core.Bool.{false}
+use mathlib.Core.Path.{_≡_}
+use Rattle.plan.specs.Held.{parts-of}
+use Rattle.plan.specs.Machine.{allows, extension}
+use Rattle.plan.proofs.plan.Plan.some_allow.Given as given
+
+-- no assignment below x does it
+abbrev pub Inv-loop-x : given.InvT-loop-x
+Inv-loop-x l = (k : ℕ) → k < l .x → allows (parts-of (l .self)) (l .next) (extension (parts-of (l .self)) (l .state) (l .setting) k) ≡ false

@@ -1,0 +1,12 @@
+pub mod Clauses
+pub mod Counted
+pub mod Extension
+pub mod Faults
+pub mod Held
+pub mod Items
+pub mod Judging
+pub mod Kept
+pub mod Loops
+pub mod Machine
+pub mod Sizes
+pub mod Sound
