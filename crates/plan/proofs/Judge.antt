@@ -16,7 +16,7 @@ use Rattle.records.specs.Reading.{record-at, whole-record, body-length}
 use Rattle.records.specs.declared.BytesFault.{BytesFault}
 use Rattle.records.specs.declared.BytesFault.the-variants.{Unfinished, UnknownKind}
 use Rattle.records.specs.declared.Record.{Record}
-use Rattle.plan.specs.Judging.{Seen, plan-kinds, judge-record, judge-whole, judge-end, judge-found, judge-from, go-on}
+use Rattle.plan.specs.Judging.{Seen, plan-kinds, judge-record, judge-end, judge-found, judge-from, go-on}
 use Rattle.plan.specs.Machine.{Parts}
 use Rattle.plan.specs.declared.fault.PlanFault.{PlanFault}
 use Rattle.plan.specs.Kept.{Fails}
@@ -30,7 +30,7 @@ pub record Found (bs : List ℕ) (at : ℕ) (r : Record) : Type 0 where
   pub sort : (r .code ≡ 15) ⊎ ((1 ≤ r .code) × (r .code ≤ 5))
 
 -- two answers of different kinds are not the same
-err-ok : {X Y : Type 0} (e : Y) (x : X) → _≡_ {A = Result X Y} (Err e) (Ok x) → ⊥
+pub err-ok : {X Y : Type 0} (e : Y) (x : X) → _≡_ {A = Result X Y} (Err e) (Ok x) → ⊥
 err-ok e x is = let z : _≡_ {A = ℕ} 0 1 = cc in omega arith
 
 none-some : (n : ℕ) → _≡_ {A = Option ℕ} None (Some n) → ⊥

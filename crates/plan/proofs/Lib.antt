@@ -1,1 +1,4 @@
+pub mod Admitting
+pub mod Forming
 pub mod Judge
+pub mod Words

@@ -1,21 +1,13 @@
--- The clauses and bans of a file, in file order. Assumes nothing.
+-- What the record at an offset says, and whether it is in order. Assumes nothing.
 use Prim.Native.Nat.{ℕ, _+_, _*_, _^_}
-use mathlib.Core.Bool.{Bool, true, false, not, _&&_, _||_, cond}
-use mathlib.Core.List.{List, [], _∷_, _++_, map}
+use mathlib.Core.Bool.{Bool, false, not, _&&_, _||_, cond}
+use mathlib.Core.List.{List}
 use lib.Bits.{bitAnd, bitOr}
 use lib.Dec.{eqb, leb, ltb}
-use lib.ListN.{length, getD}
-use Rattle.std.specs.declared.option.Option.{Option}
-use Rattle.std.specs.declared.option.Option.the-variants.{None, Some}
-use Rattle.plant.specs.Tests.{same, some-of}
+use lib.ListN.{getD}
+use Rattle.plant.specs.Tests.{same}
 use Rattle.plan.specs.declared.clause.Clause.{Clause}
 use Rattle.plan.specs.declared.clause.Condition.{Condition}
-
--- a clause or ban: where it stands, its kind, and what it says
-pub record Item : Type 0 where
-  pub offset : ℕ
-  pub code : ℕ
-  pub clause : Clause
 
 -- the byte at an index, 0 past the end
 abbrev pub byte : List ℕ → ℕ → ℕ
@@ -49,25 +41,8 @@ item-fits b n m bs o code =
     (eqb code 5 || (letter-fits b n m code (byte bs (o + 1)) && leb (byte bs (o + 2)) 1))
     && (ltb (clause-at bs o code .condition .ones) (2 ^ (b + n + m)) && ltb (clause-at bs o code .condition .zeros) (2 ^ (b + n + m)))
 
--- the clauses of one kind, in file order
-abbrev pub of-kind : ℕ → List Item → List Clause
-of-kind k [] = []
-of-kind k (i ∷ is) = cond (eqb (i .code) k) (i .clause ∷ of-kind k is) (of-kind k is)
-
--- the bans, in file order
-abbrev pub bans-of : List Item → List Condition
-bans-of items = map (λ (c : Clause). c .condition) (of-kind 5 items)
-
 -- two clauses for one letter with opposite values, whose conditions can be true together
 abbrev pub clash : Clause → Clause → Bool
 clash c d =
     (eqb (c .letter) (d .letter) && not (same (c .value) (d .value)))
     && eqb (bitAnd (bitOr (c .condition .ones) (d .condition .ones)) (bitOr (c .condition .zeros) (d .condition .zeros))) 0
-
--- the first clause that clashes with one of its kind before it; bans clash with nothing
-abbrev pub clash-after : List Item → List Item → Option ℕ
-clash-after seen [] = None
-clash-after seen (i ∷ is) = cond (not (eqb (i .code) 5) && some-of (clash (i .clause)) (of-kind (i .code) seen)) (Some (i .offset)) (clash-after (seen ++ (i ∷ [])) is)
-
-abbrev pub first-clash : List Item → Option ℕ
-first-clash items = clash-after [] items

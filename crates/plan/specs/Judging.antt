@@ -2,7 +2,6 @@
 use Prim.Native.Nat.{ℕ, zero, suc, _+_}
 use mathlib.Core.Bool.{Bool, cond, _&&_}
 use mathlib.Core.List.{List, [], _∷_, _++_}
-use mathlib.Core.Path.{_≡_}
 use lib.Dec.{eqb, leb, ltb}
 use lib.ListN.{length}
 use Rattle.std.specs.declared.option.Option.{Option}
@@ -21,7 +20,7 @@ use Rattle.plan.specs.Machine.{Parts}
 use Rattle.plan.specs.Sizes.{sizes-fit}
 use Rattle.plan.specs.declared.clause.Clause.{Clause}
 use Rattle.plan.specs.declared.fault.PlanFault.{PlanFault}
-use Rattle.plan.specs.declared.fault.PlanFault.the-variants.{Bytes, HeadMisplaced, SizeLimits, TooManyClauses, Malformed, Loop, Clash, Memory}
+use Rattle.plan.specs.declared.fault.PlanFault.the-variants.{Bytes, HeadMisplaced, SizeLimits, TooManyClauses, Malformed, Loop, Clash}
 
 -- the most clauses and bans of a plan
 abbrev pub most-clauses : ℕ

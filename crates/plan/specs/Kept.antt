@@ -1,15 +1,12 @@
 -- What the steps of reading do, beside want of memory. Assumes nothing.
-use Prim.Native.Nat.{ℕ}
-use mathlib.Core.List.{List}
 use mathlib.Core.Path.{_≡_}
 use Rattle.std.specs.declared.result.Result.{Result}
 use Rattle.std.specs.declared.result.Result.the-variants.{Ok, Err}
 use Rattle.plan.specs.Held.{parts-of}
-use Rattle.plan.specs.Judging.{Seen, judge, judge-record}
+use Rattle.plan.specs.Judging.{Seen}
 use Rattle.plan.specs.Machine.{Parts}
 use Rattle.plan.specs.declared.fault.PlanFault.{PlanFault}
 use Rattle.plan.specs.declared.fault.PlanFault.the-variants.{Bytes, HeadMisplaced, SizeLimits, TooManyClauses, Malformed, Loop, Clash, Memory}
-use Rattle.plan.specs.declared.plan.Plan.{Plan}
 use Rattle.plan.specs.declared.reading.Reading.{Reading}
 
 -- what a reading has seen

@@ -1,7 +1,9 @@
+pub mod Admitted
 pub mod Clauses
 pub mod Counted
 pub mod Extension
 pub mod Faults
+pub mod Formed
 pub mod Held
 pub mod Items
 pub mod Judging

@@ -1,5 +1,4 @@
 // One extension of a pair: a word of all letters, state bits first, then lines, then auxiliaries.
-ghost use mathlib.Core.Bool.{not, _||_};
 ghost use mathlib.Core.Path.{_≡_};
 ghost use Prim.Native.Nat.{_+_, _^_, _<_, _≤_};
 ghost use Rattle.plant.specs.Tests.{all-of, some-of};

@@ -1,10 +1,7 @@
 // The parts of a record's body.
 ghost use mathlib.Core.Path.{_≡_};
 ghost use Prim.Native.Nat.{_+_, _<_, _≤_};
-ghost use lib.ListN.{length};
-ghost use Rattle.plant.specs.Meaning.{most-bits, most-lines};
 ghost use Rattle.plan.specs.Items.{byte, mask-at, condition-at, clause-at, letter-fits, item-fits};
-ghost use Rattle.plan.specs.Sizes.{most-auxiliaries};
 use crate::clause::Clause;
 use crate::clause::Condition;
 use crate::plan::Sizes;

@@ -1,6 +1,6 @@
 // Auxiliaries that depend on themselves.
 ghost use mathlib.Core.Path.{_≡_};
-ghost use Prim.Native.Nat.{_+_, _<_, _≤_};
+ghost use Prim.Native.Nat.{_+_, _<_};
 ghost use Rattle.plan.specs.Loops.{gathered, reached, first-loop};
 use crate::clause::Clause;
 use crate::extension::letter_mask;

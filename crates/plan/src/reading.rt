@@ -1,11 +1,12 @@
 // Reading a plan, record by record.
-ghost use mathlib.Core.Bool.{_||_, _&&_};
+ghost use mathlib.Core.Bool.{_&&_};
 ghost use mathlib.Core.Path.{_≡_};
 ghost use Prim.Native.Nat.{_+_, _<_, _≤_};
-ghost use lib.Dec.{eqb};
 ghost use lib.ListN.{length};
 ghost use Rattle.plant.specs.Tests.{some-of};
-ghost use Rattle.plan.specs.Items.{clash, item-fits};
+ghost use Rattle.std.specs.Vec.{made};
+ghost use Rattle.plan.specs.Admitted.{Admitted};
+ghost use Rattle.plan.specs.Items.{clash};
 ghost use Rattle.plan.specs.Judging.{clashes-with, earlier, with-clause, judge, judge-record, judge-from, judge-whole};
 ghost use Rattle.plan.specs.Held.{parts-of};
 ghost use Rattle.plan.specs.Kept.{As-expected, Read-up, seen-of};
@@ -182,7 +183,8 @@ fn sizes_fit(sizes: Sizes) -> bool
 impl Plan {
     // Reads a plan: the head, the records up to the end, then loops and clashes.
     pub fn read(heap: Global, bytes: &[u8]) -> Result<Plan, PlanFault>
-        ensures { λ r. ⌜ As-expected (judge (now (bytes .entry))) parts-of r ⌝ }
+        ensures judged { λ r. ⌜ As-expected (judge (now (bytes .entry))) parts-of r ⌝ }
+        ensures admitted { λ r. ⌜ made r (λ x. Admitted (parts-of x)) ⌝ }
     {
         let head = record_at(bytes, &KINDS, 0)?;
         if head.code != 1 {

@@ -1,9 +1,7 @@
 use Prim.Native.Nat.{ℕ, suc, _+_, _-_}
-use lib.Dec.{eqb}
 use mathlib.Core.Bool.{true, false, cond}
 use mathlib.Core.Path.{_≡_, sym, ap, _∙_}
 use native.Mathlib.Omega.{arith}
-use Rattle.std.specs.declared.option.Option.{Option}
 use Rattle.std.specs.declared.option.Option.the-variants.{Some}
 use Rattle.plant.specs.Bits.{bit}
 use Rattle.plan.specs.Loops.{first-loop, reached}

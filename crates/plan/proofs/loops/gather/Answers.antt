@@ -1,7 +1,7 @@
 use Prim.Native.Nat.{ℕ, _+_}
 use lib.Bits.{bitOr}
 use lib.ListN.{drop, getD}
-use mathlib.Core.Bool.{Bool, true, false, cond}
+use mathlib.Core.Bool.{Bool, false, cond}
 use mathlib.Core.List.{List}
 use mathlib.Core.Path.{_≡_, sym, ap, _∙_}
 use Rattle.std.proofs.shelf.Lists.{at-drop-more, at-drop-all}

@@ -1,16 +1,15 @@
-use Prim.Native.Nat.{ℕ, pred, _+_, _<_, _≤_}
+use Prim.Native.Nat.{pred}
 use lib.Dec.{ltb}
 use lib.ListN.{length}
 use mathlib.Core.Path.{_≡_, refl, sym, ap, subst, _∙_}
 use native.Mathlib.Omega.{arith}
 use Rattle.std.specs.declared.result.Result.{Result}
-use Rattle.std.specs.declared.result.Result.the-variants.{Ok, Err}
+use Rattle.std.specs.declared.result.Result.the-variants.{Err}
 use Rattle.std.proofs.shelf.Results.{err-from-errBy}
 use Rattle.records.specs.declared.BytesFault.the-variants.{AfterEnd}
 use Rattle.plan.specs.Judging.{judge-from, judge-whole, judge-record}
-use Rattle.plan.specs.Kept.{seen-of, Read-up, Fails}
+use Rattle.plan.specs.Kept.{seen-of, Read-up}
 use Rattle.plan.specs.declared.fault.PlanFault.{PlanFault}
-use Rattle.plan.specs.declared.fault.PlanFault.the-variants.{Bytes}
 use Rattle.plan.proofs.Judge.{found, at-fault, at-end, at-refused, at-more, fails-through, end-fault, end-passes}
 use Rattle.plan.proofs.reading.read_records.Needs as need
 

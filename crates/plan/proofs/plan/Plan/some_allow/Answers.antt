@@ -1,6 +1,6 @@
 use Prim.Native.Nat.{ℕ, _^_}
 use borrow.Author.Count.{below-more}
-use mathlib.Core.Bool.{Bool, true, false}
+use mathlib.Core.Bool.{Bool, true}
 use mathlib.Core.Path.{_≡_, sym, ap, _∙_}
 use native.Mathlib.Omega.{arith}
 use Rattle.plant.proofs.Bounded.{any-from-none, any-from-one}

@@ -1,0 +1,26 @@
+-- What holds of every admitted plan. Assumes nothing.
+use Prim.Native.Nat.{ℕ}
+use mathlib.Core.List.{List, List·Memᴰ}
+use mathlib.Core.Path.{_≡_}
+use Rattle.plan.specs.Clauses.{Holds}
+use Rattle.plan.specs.Formed.{Well-formed}
+use Rattle.plan.specs.Machine.{Parts, Plan-words, plan-meaning}
+use Rattle.plan.specs.declared.clause.Clause.{Clause}
+
+-- two clauses for one letter with opposite values, whose conditions some assignment of all letters makes true together
+pub record Clash (c d : Clause) : Type 0 where
+  pub letter : c .letter ≡ d .letter
+  pub opposite : c .value ≡ d .value → ⊥
+  pub together : (w : ℕ) × Holds (c .condition) w × Holds (d .condition) w
+
+-- no two clauses of the list clash
+abbrev pub Clash-free : List Clause → Type 0
+Clash-free cs = (c d : Clause) → List·Memᴰ c cs → List·Memᴰ d cs → Clash c d → ⊥
+
+-- an admitted plan is well-formed, no two clauses of one kind clash, and its plant's starts, safe pairs and followings are as the clauses say
+pub record Admitted (p : Parts) : Type 0 where
+  pub well-formed : Well-formed p
+  pub starts-agree : Clash-free (p .starts)
+  pub nexts-agree : Clash-free (p .nexts)
+  pub auxes-agree : Clash-free (p .auxes)
+  pub words : Plan-words p (plan-meaning p)
