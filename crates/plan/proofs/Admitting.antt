@@ -1,5 +1,5 @@
 -- An admitted plan is well-formed, free of clashes, and means what its clauses say. Assumes nothing.
-use Prim.Native.Nat.{ℕ, _<_, _≤_}
+use Prim.Native.Nat.{ℕ, _+_, _^_, _<_, _≤_}
 use native.Mathlib.Omega.{arith}
 use lib.Bits.{bitAnd, bitOr}
 use lib.Dec.{eqb, leb}
@@ -14,7 +14,7 @@ use Rattle.std.specs.declared.result.Result.{Result}
 use Rattle.std.specs.declared.result.Result.the-variants.{Ok, Err}
 use Rattle.std.specs.Vec.{made}
 use Rattle.std.specs.Orderings.{Decides}
-use Rattle.std.proofs.shelf.Bits.{and-le-r}
+use Rattle.std.proofs.shelf.Bits.{and-le-r, or-lt}
 use Rattle.std.proofs.shelf.Tests.{and-parts, and-from, or-cases, or-left, or-right, eqb-true, eq-eqb, both-ways, not-true, not-from-false, cases-bool, leb-true}
 use Rattle.plant.specs.Bits.{bit}
 use Rattle.plant.specs.Tests.{same, some-of}
@@ -25,17 +25,21 @@ use Rattle.records.specs.Reading.{record-at}
 use Rattle.records.specs.declared.BytesFault.{BytesFault}
 use Rattle.records.specs.declared.Record.{Record}
 use Rattle.plan.specs.Admitted.{Admitted, Clash, Clash-free}
-use Rattle.plan.specs.Formed.{Well-formed}
+use Rattle.plan.specs.Depends.{Depends, Loop-free}
+use Rattle.plan.specs.Depends.Depends.{directly, through as by-way-of}
+use Rattle.plan.specs.Formed.{Well-formed, letters}
 use Rattle.plan.specs.Held.{parts-of}
 use Rattle.plan.specs.Items.{byte, clash, clause-at, item-fits}
 use Rattle.plan.specs.Judging.{Seen, plan-kinds, clashes-with, earlier, kept, none-yet, judge, judge-from, judge-head}
 use Rattle.plan.specs.Kept.{As-expected}
+use Rattle.plan.specs.Loops.{first-loop}
 use Rattle.plan.specs.Machine.{Parts}
 use Rattle.plan.specs.Sizes.{sizes-fit}
 use Rattle.plan.specs.declared.clause.Clause.{Clause}
 use Rattle.plan.specs.declared.fault.PlanFault.{PlanFault}
 use Rattle.plan.specs.declared.fault.PlanFault.the-variants.{Bytes, HeadMisplaced, SizeLimits}
 use Rattle.plan.specs.declared.plan.Plan.{Plan}
+use Rattle.plan.proofs.Depending.{Below, none-loops, reached-decides}
 use Rattle.plan.proofs.Forming.{formed-more, one-more, Passed, through}
 use Rattle.plan.proofs.Judge.{err-ok}
 use Rattle.plan.proofs.Words.{plan-words}
@@ -171,11 +175,37 @@ small-letters p w c here =
     let lt = w .nexts c here .0 in
     omega arith
 
+few-letters : (p : Parts) → Well-formed p → letters p ≤ 20
+few-letters p w =
+    let parts = and-parts (leb 1 (p .bits) && leb (p .bits) 8) _ (w .sizes) in
+    let few-bits : p .bits ≤ 8 = leb-true (p .bits) 8 (and-parts (leb 1 (p .bits)) (leb (p .bits) 8) (parts .0) .1) in
+    let rest = and-parts (leb 1 (p .lines) && leb (p .lines) 4) (leb (p .auxiliaries) 8) (parts .1) in
+    let few-lines : p .lines ≤ 4 = leb-true (p .lines) 4 (and-parts (leb 1 (p .lines)) (leb (p .lines) 4) (rest .0) .1) in
+    let few-auxiliaries : p .auxiliaries ≤ 8 = leb-true (p .auxiliaries) 8 (rest .1) in
+    omega arith
+
+-- where no loop was found, no letter depends on itself
+free-of-loops : (p : Parts) → Well-formed p → first-loop (p .auxes) (2 ^ letters p) (p .bits + p .lines) (p .auxiliaries) ≡ None → Loop-free (p .auxes)
+free-of-loops p w none l d =
+    let own = owner d in
+    let place = w .auxes (own .0) (own .1) in
+    let ge : p .bits + p .lines ≤ l = subst (λ k. p .bits + p .lines ≤ k) (own .2) (place .0) in
+    let lt : l < letters p = subst (λ k. k < letters p) (own .2) (place .1) in
+    let few = few-letters p w in
+    let small : Below (letters p) (p .auxes) = λ c here. or-lt (letters p) (c .condition .ones) (c .condition .zeros) (w .auxes c here .2 .0) (w .auxes c here .2 .1) in
+    both-ways _ (none-loops (p .auxes) (2 ^ letters p) (p .bits + p .lines) (p .auxiliaries) none l ge lt) (reached-decides (letters p) (p .auxes) small l (omega arith) l .1 d)
+  where
+    -- a letter that depends on anything has a clause
+    owner : {k : ℕ} → Depends (p .auxes) l k → (c : Clause) × List·Memᴰ c (p .auxes) × (c .letter ≡ l)
+    owner (directly n) = (n .clause, n .here, n .own)
+    owner (by-way-of e _) = owner e
+
 admitted-from : (s : Seen) → Good s → (p : Parts) → Passed s p → Admitted p
 admitted-from s g p passed =
     subst (λ (q : Parts). Admitted q) (sym (passed .same))
     (record {
       well-formed = g .formed;
+      loop-free = free-of-loops (s .parts) (g .formed) (passed .no-loop);
       starts-agree = g .starts (passed .no-clash);
       nexts-agree = g .nexts (passed .no-clash);
       auxes-agree = g .auxes (passed .no-clash);

@@ -1,5 +1,5 @@
 -- An admitted plan is well-formed, has no loop and no clash. Assumes nothing.
-use Prim.Native.Nat.{ℕ, zero, suc, _+_, _<_, _≤_}
+use Prim.Native.Nat.{ℕ, zero, suc, _+_, _<_, _≤_, _^_}
 use lib.Dec.{eqb, leb, ltb}
 use lib.ListN.{length}
 use mathlib.Core.Bool.{Bool, true, false, cond}
@@ -78,17 +78,17 @@ module _ (bs : List ℕ) (o : ℕ) (p : Parts) where
 -- what came through the last checks: the lists, without a loop and without a clash
 pub record Passed (s : Seen) (p : Parts) : Type 0 where
   pub same : p ≡ s .parts
-  pub no-loop : first-loop (s .parts .auxes) (s .parts .bits + s .parts .lines) (s .parts .auxiliaries) ≡ None
+  pub no-loop : first-loop (s .parts .auxes) (2 ^ (s .parts .bits + s .parts .lines + s .parts .auxiliaries)) (s .parts .bits + s .parts .lines) (s .parts .auxiliaries) ≡ None
   pub no-clash : s .clash-at ≡ None
 
 passed : (s : Seen) (p : Parts) → judge-whole s ≡ Ok p → Passed s p
-passed s p e = by-loop (first-loop (s .parts .auxes) (s .parts .bits + s .parts .lines) (s .parts .auxiliaries)) refl e
+passed s p e = by-loop (first-loop (s .parts .auxes) (2 ^ (s .parts .bits + s .parts .lines + s .parts .auxiliaries)) (s .parts .bits + s .parts .lines) (s .parts .auxiliaries)) refl e
   where
-    by-clash : (o : Option ℕ) → s .clash-at ≡ o → first-loop (s .parts .auxes) (s .parts .bits + s .parts .lines) (s .parts .auxiliaries) ≡ None → judge-clash (s .parts) o ≡ Ok p → Passed s p
+    by-clash : (o : Option ℕ) → s .clash-at ≡ o → first-loop (s .parts .auxes) (2 ^ (s .parts .bits + s .parts .lines + s .parts .auxiliaries)) (s .parts .bits + s .parts .lines) (s .parts .auxiliaries) ≡ None → judge-clash (s .parts) o ≡ Ok p → Passed s p
     by-clash (Some x) is none r = absurd (err-ok (Clash x) p r)
     by-clash None is none r = let eq : s .parts ≡ p = cc in record { same = sym eq; no-loop = none; no-clash = is }
 
-    by-loop : (l : Option ℕ) → first-loop (s .parts .auxes) (s .parts .bits + s .parts .lines) (s .parts .auxiliaries) ≡ l → judge-loop s l ≡ Ok p → Passed s p
+    by-loop : (l : Option ℕ) → first-loop (s .parts .auxes) (2 ^ (s .parts .bits + s .parts .lines + s .parts .auxiliaries)) (s .parts .bits + s .parts .lines) (s .parts .auxiliaries) ≡ l → judge-loop s l ≡ Ok p → Passed s p
     by-loop (Some x) is r = absurd (err-ok (Loop x) p r)
     by-loop None is r = by-clash (s .clash-at) refl is r
 

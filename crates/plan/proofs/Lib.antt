@@ -1,4 +1,5 @@
 pub mod Admitting
+pub mod Depending
 pub mod Forming
 pub mod Judge
 pub mod Words

@@ -90,7 +90,7 @@ bit-power l i =
         ap₂ (λ b r. cond b (2 ^ l) 0 + r) (eq-eqb l l refl) (pack-none (λ k. eqb k l) l (λ k lt. Rattle.std.proofs.shelf.Tests.ne-eqb k l (λ e. omega arith))) ∙
         native.Mathlib.Nat.add-zero (2 ^ l)
 
-bit-letter : (l i : ℕ) → l < 32 → bit (letter-mask l) i ≡ eqb i l
+pub bit-letter : (l i : ℕ) → l < 32 → bit (letter-mask l) i ≡ eqb i l
 bit-letter l i lt = ap (λ x. bit x i) (cond-true (ltb l 32) (2 ^ l) 0 (lt-ltb l 32 lt)) ∙ bit-power l i
 
 -- a pair of masks as a condition

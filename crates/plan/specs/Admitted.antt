@@ -3,6 +3,7 @@ use Prim.Native.Nat.{ℕ}
 use mathlib.Core.List.{List, List·Memᴰ}
 use mathlib.Core.Path.{_≡_}
 use Rattle.plan.specs.Clauses.{Holds}
+use Rattle.plan.specs.Depends.{Loop-free}
 use Rattle.plan.specs.Formed.{Well-formed}
 use Rattle.plan.specs.Machine.{Parts, Plan-words, plan-meaning}
 use Rattle.plan.specs.declared.clause.Clause.{Clause}
@@ -17,9 +18,10 @@ pub record Clash (c d : Clause) : Type 0 where
 abbrev pub Clash-free : List Clause → Type 0
 Clash-free cs = (c d : Clause) → List·Memᴰ c cs → List·Memᴰ d cs → Clash c d → ⊥
 
--- an admitted plan is well-formed, no two clauses of one kind clash, and its plant's starts, safe pairs and followings are as the clauses say
+-- an admitted plan is well-formed, no auxiliary depends on itself, no two clauses of one kind clash, and its plant's starts, safe pairs and followings are as the clauses say
 pub record Admitted (p : Parts) : Type 0 where
   pub well-formed : Well-formed p
+  pub loop-free : Loop-free (p .auxes)
   pub starts-agree : Clash-free (p .starts)
   pub nexts-agree : Clash-free (p .nexts)
   pub auxes-agree : Clash-free (p .auxes)

@@ -1,5 +1,5 @@
 -- What reading a plan comes to, as a function of its bytes. Assumes nothing.
-use Prim.Native.Nat.{ℕ, zero, suc, _+_}
+use Prim.Native.Nat.{ℕ, zero, suc, _+_, _^_}
 use mathlib.Core.Bool.{Bool, cond, _&&_}
 use mathlib.Core.List.{List, [], _∷_, _++_}
 use lib.Dec.{eqb, leb, ltb}
@@ -89,7 +89,7 @@ judge-loop s (Some l) = Err (Loop l)
 judge-loop s None = judge-clash (s .parts) (s .clash-at)
 
 abbrev pub judge-whole : Seen → Result Parts PlanFault
-judge-whole s = judge-loop s (first-loop (s .parts .auxes) (s .parts .bits + s .parts .lines) (s .parts .auxiliaries))
+judge-whole s = judge-loop s (first-loop (s .parts .auxes) (2 ^ (s .parts .bits + s .parts .lines + s .parts .auxiliaries)) (s .parts .bits + s .parts .lines) (s .parts .auxiliaries))
 
 -- a byte after the end (7), then the whole
 abbrev pub judge-end : List ℕ → Seen → ℕ → Result Parts PlanFault

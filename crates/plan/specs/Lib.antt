@@ -1,6 +1,7 @@
 pub mod Admitted
 pub mod Clauses
 pub mod Counted
+pub mod Depends
 pub mod Extension
 pub mod Faults
 pub mod Formed
