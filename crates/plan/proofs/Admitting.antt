@@ -40,6 +40,7 @@ use Rattle.plan.specs.declared.fault.PlanFault.{PlanFault}
 use Rattle.plan.specs.declared.fault.PlanFault.the-variants.{Bytes, HeadMisplaced, SizeLimits}
 use Rattle.plan.specs.declared.plan.Plan.{Plan}
 use Rattle.plan.proofs.Depending.{Below, none-loops, reached-decides}
+use Rattle.plan.proofs.Fitting.{fitting, followed}
 use Rattle.plan.proofs.Forming.{formed-more, one-more, Passed, through}
 use Rattle.plan.proofs.Judge.{err-ok}
 use Rattle.plan.proofs.Words.{plan-words}
@@ -184,6 +185,9 @@ few-letters p w =
     let few-auxiliaries : p .auxiliaries ≤ 8 = leb-true (p .auxiliaries) 8 (rest .1) in
     omega arith
 
+small-masks : (p : Parts) → Well-formed p → Below (letters p) (p .auxes)
+small-masks p w c here = or-lt (letters p) (c .condition .ones) (c .condition .zeros) (w .auxes c here .2 .0) (w .auxes c here .2 .1)
+
 -- where no loop was found, no letter depends on itself
 free-of-loops : (p : Parts) → Well-formed p → first-loop (p .auxes) (2 ^ letters p) (p .bits + p .lines) (p .auxiliaries) ≡ None → Loop-free (p .auxes)
 free-of-loops p w none l d =
@@ -192,8 +196,7 @@ free-of-loops p w none l d =
     let ge : p .bits + p .lines ≤ l = subst (λ k. p .bits + p .lines ≤ k) (own .2) (place .0) in
     let lt : l < letters p = subst (λ k. k < letters p) (own .2) (place .1) in
     let few = few-letters p w in
-    let small : Below (letters p) (p .auxes) = λ c here. or-lt (letters p) (c .condition .ones) (c .condition .zeros) (w .auxes c here .2 .0) (w .auxes c here .2 .1) in
-    both-ways _ (none-loops (p .auxes) (2 ^ letters p) (p .bits + p .lines) (p .auxiliaries) none l ge lt) (reached-decides (letters p) (p .auxes) small l (omega arith) l .1 d)
+    both-ways _ (none-loops (p .auxes) (2 ^ letters p) (p .bits + p .lines) (p .auxiliaries) none l ge lt) (reached-decides (letters p) (p .auxes) (small-masks p w) l (omega arith) l .1 d)
   where
     -- a letter that depends on anything has a clause
     owner : {k : ℕ} → Depends (p .auxes) l k → (c : Clause) × List·Memᴰ c (p .auxes) × (c .letter ≡ l)
@@ -202,14 +205,18 @@ free-of-loops p w none l d =
 
 admitted-from : (s : Seen) → Good s → (p : Parts) → Passed s p → Admitted p
 admitted-from s g p passed =
+    let few : letters (s .parts) ≤ 32 = let h = few-letters (s .parts) (g .formed) in omega arith in
+    let no-loop = free-of-loops (s .parts) (g .formed) (passed .no-loop) in
     subst (λ (q : Parts). Admitted q) (sym (passed .same))
     (record {
       well-formed = g .formed;
-      loop-free = free-of-loops (s .parts) (g .formed) (passed .no-loop);
+      loop-free = no-loop;
       starts-agree = g .starts (passed .no-clash);
       nexts-agree = g .nexts (passed .no-clash);
       auxes-agree = g .auxes (passed .no-clash);
       words = plan-words (s .parts) (small-letters (s .parts) (g .formed));
+      fitting = fitting (s .parts) (g .formed) few (small-masks (s .parts) (g .formed)) no-loop (g .auxes (passed .no-clash));
+      followed = followed (s .parts) (g .formed) few (small-masks (s .parts) (g .formed)) no-loop (g .auxes (passed .no-clash)) (g .nexts (passed .no-clash));
     })
 
 pub judged-admitted : (bs : List ℕ) (p : Parts) → judge bs ≡ Ok p → Admitted p

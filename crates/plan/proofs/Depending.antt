@@ -8,7 +8,6 @@ use mathlib.Core.List.{List, [], _∷_, List·Memᴰ, List·Memᴰ·head, List·
 use mathlib.Core.Logic.{_⊎_, inl, inr, ⊎-elim}
 use mathlib.Core.Path.{_≡_, refl, sym, ap, subst, _∙_}
 use Rattle.std.specs.Orderings.{Decides}
-use Rattle.std.specs.declared.option.Option.{Option}
 use Rattle.std.specs.declared.option.Option.the-variants.{None, Some}
 use Rattle.std.proofs.shelf.Bits.{or-lt}
 use Rattle.std.proofs.shelf.Tests.{or-cases, or-left, or-right, eqb-true, eq-eqb, both-ways, cases-lt}
@@ -38,9 +37,9 @@ gathered-adds [] roots found k c here on has = absurd (List·Memᴰ·not-nil her
 gathered-adds (d ∷ cs) roots found k c here on has =
     ⊎-elim
     (λ is.
-        let on-d : bit roots (d .letter) ≡ true = subst (λ (z : Clause). bit roots (z .letter) ≡ true) is on in
-        let has-d : bit (named d) k ≡ true = subst (λ (z : Clause). bit (named z) k ≡ true) is has in
-        gathered-keeps cs roots _ k (ap (λ (b : Bool). bit (cond b (bitOr found (named d)) found) k) on-d ∙ bit-or found (named d) k ∙ or-right (bit found k) _ has-d))
+    let on-d : bit roots (d .letter) ≡ true = subst (λ (z : Clause). bit roots (z .letter) ≡ true) is on in
+    let has-d : bit (named d) k ≡ true = subst (λ (z : Clause). bit (named z) k ≡ true) is has in
+    gathered-keeps cs roots _ k (ap (λ (b : Bool). bit (cond b (bitOr found (named d)) found) k) on-d ∙ bit-or found (named d) k ∙ or-right (bit found k) _ has-d))
     (λ later. gathered-adds cs roots _ k c later on has)
     (List·Memᴰ·cases-cons here)
 
@@ -66,7 +65,7 @@ pack-le p q (suc n) more =
     by false e = omega arith
 
 -- a number with all the bits of another is no less
-more-bits : (x y : ℕ) → ((i : ℕ) → bit x i ≡ true → bit y i ≡ true) → x ≤ y
+pub more-bits : (x y : ℕ) → ((i : ℕ) → bit x i ≡ true → bit y i ≡ true) → x ≤ y
 more-bits x y more =
     let n : ℕ = x + y in
     let x-small : x < 2 ^ n = let h = below-pow n in omega arith in
@@ -169,3 +168,14 @@ none-loops cs rounds from (suc n) e k ge lt = by (none-loops cs rounds (from + 1
     by : (first-loop cs rounds (from + 1) n ≡ None → (i : ℕ) → from + 1 ≤ i → i < from + 1 + n → bit (reached cs rounds i) i ≡ false) → (b : Bool) → bit (reached cs rounds from) from ≡ b → cond b (Some from) (first-loop cs rounds (from + 1) n) ≡ None → bit (reached cs rounds k) k ≡ false
     by later true is e = let z : _≡_ {A = ℕ} 0 1 = cc in absurd (omega arith)
     by later false is e = ⊎-elim (λ here. subst (λ i. bit (reached cs rounds i) i ≡ false) (omega arith) is) (λ past. later e k (omega arith) (omega arith)) (cases-lt k (from + 1))
+
+further-small : (n : ℕ) (cs : List Clause) → Below n cs → (rounds found : ℕ) → found < 2 ^ n → further cs rounds found < 2 ^ n
+further-small n cs small zero found lt = lt
+further-small n cs small (suc rounds) found lt = by (further-small n cs small rounds (gathered cs found found) (gathered-small n cs found found small lt)) (eqb (gathered cs found found) found)
+  where
+    by : further cs rounds (gathered cs found found) < 2 ^ n → (b : Bool) → cond b found (further cs rounds (gathered cs found found)) < 2 ^ n
+    by later true = lt
+    by later false = later
+
+pub reached-small : (n : ℕ) (cs : List Clause) → Below n cs → (l : ℕ) → reached cs (2 ^ n) l < 2 ^ n
+reached-small n cs small l = further-small n cs small (2 ^ n) (gathered cs (letter-mask l) 0) (gathered-small n cs (letter-mask l) 0 small (let h = below-pow n in omega arith))

@@ -1,5 +1,6 @@
 pub mod Admitting
 pub mod Depending
+pub mod Fitting
 pub mod Forming
 pub mod Judge
 pub mod Words
