@@ -13,67 +13,17 @@ mod tests {
 
     // Two state bits and a line; bit 1 is 0 at the start and follows the line; where the line is on, bit 0 is 0 next.
     // Never bit 1 with the line on, and never bit 0 with the line off.
-    const BRAKE: [u8; 59] = [
-        1,
-        2,
-        1,
-        0,
-        2,
-        1,
-        0,
-        3,
-        1,
-        1,
-        0,
-        0,
-        0,
-        4,
-        0,
-        0,
-        0,
-        0,
-        3,
-        1,
-        0,
-        0,
-        0,
-        0,
-        0,
-        0,
-        0,
-        0,
-        4,
-        3,
-        0,
-        0,
-        0,
-        0,
-        0,
-        4,
-        0,
-        0,
-        0,
-        0,
-        5,
-        0,
-        0,
-        0,
-        6,
-        0,
-        0,
-        0,
-        0,
-        5,
-        0,
-        0,
-        0,
-        1,
-        0,
-        0,
-        0,
-        4,
-        15,
-    ];
+    fn brake(heap: Global) -> Result<Vec<u8>, Fail> {
+        let mut bytes = Vec::from_slice(heap, &[1, 2, 1, 0])?;
+        bytes.extend_from_slice(&[2, 1, 0])?;
+        bytes.extend_from_slice(&[3, 1, 1, 0, 0, 0, 4, 0, 0, 0, 0])?;
+        bytes.extend_from_slice(&[3, 1, 0, 0, 0, 0, 0, 0, 0, 0, 4])?;
+        bytes.extend_from_slice(&[3, 0, 0, 0, 0, 0, 4, 0, 0, 0, 0])?;
+        bytes.extend_from_slice(&[5, 0, 0, 0, 6, 0, 0, 0, 0])?;
+        bytes.extend_from_slice(&[5, 0, 0, 0, 1, 0, 0, 0, 4])?;
+        bytes.extend_from_slice(&[15])?;
+        Ok(bytes)
+    }
 
     fn expect(heap: Global, bytes: &[u8], want: Result<(), PlanFault>) -> Result<(), Fail> {
         let found = match Plan::read(heap, bytes) {
@@ -101,10 +51,14 @@ mod tests {
     #[test]
     fn cut_at_every_offset(rt: LibcRuntime) -> Result<(), Fail> {
         let heap = rt.alloc();
-        for end in 0..59 {
-            expect(heap, &BRAKE[0..end], cut(record_of(end)))?;
+        let whole = brake(heap)?;
+        let mut bytes = Vec::new(heap);
+        for byte in whole.as_slice() {
+            expect(heap, bytes.as_slice(), cut(record_of(bytes.len())))?;
+            bytes.push(*byte)?;
         }
-        expect(heap, &BRAKE, Ok(()))
+        check_eq(bytes.len(), 59)?;
+        expect(heap, bytes.as_slice(), Ok(()))
     }
 
     #[test]
@@ -182,189 +136,80 @@ mod tests {
         )
     }
 
+    // A clause of kind 3 or 4 whose masks have letters 0 to 7 only.
+    fn add_clause(
+        bytes: &mut Vec<u8>,
+        kind: u8,
+        letter: u8,
+        value: u8,
+        ones: u8,
+        zeros: u8,
+    ) -> Result<(), Fail> {
+        bytes.extend_from_slice(&[kind, letter, value])?;
+        bytes.extend_from_slice(&[0, 0, 0, ones])?;
+        bytes.extend_from_slice(&[0, 0, 0, zeros])?;
+        Ok(())
+    }
+
     #[test]
-    fn loops(rt: LibcRuntime) -> Result<(), Fail> {
-        // Auxiliaries are letters 2, 3 and 4. Each clause wants one letter in its condition.
+    fn loop_of_one(rt: LibcRuntime) -> Result<(), Fail> {
         let heap = rt.alloc();
-        expect(
-            heap,
-            &[1, 1, 1, 1, 4, 2, 1, 0, 0, 0, 0, 0, 0, 0, 4, 15],
-            Err(PlanFault::Loop { letter: 2 }),
-        )?;
-        let chain = [
-            1,
-            1,
-            1,
-            3,
-            4,
-            3,
-            1,
-            0,
-            0,
-            0,
-            16,
-            0,
-            0,
-            0,
-            0,
-            4,
-            4,
-            0,
-            0,
-            0,
-            0,
-            0,
-            0,
-            0,
-            0,
-            4,
-            4,
-            2,
-            0,
-            0,
-            0,
-            0,
-            8,
-            0,
-            0,
-            0,
-            0,
-            15,
-        ];
-        expect(heap, &chain, Err(PlanFault::Loop { letter: 2 }))?;
-        let open = [
-            1,
-            1,
-            1,
-            3,
-            4,
-            3,
-            1,
-            0,
-            0,
-            0,
-            16,
-            0,
-            0,
-            0,
-            0,
-            4,
-            4,
-            0,
-            0,
-            0,
-            0,
-            0,
-            0,
-            0,
-            0,
-            4,
-            15,
-        ];
-        expect(heap, &open, Ok(()))
+        let mut bytes = Vec::from_slice(heap, &[1, 1, 1, 1])?;
+        add_clause(&mut bytes, 4, 2, 1, 0, 4)?;
+        bytes.push(15)?;
+        expect(heap, bytes.as_slice(), Err(PlanFault::Loop { letter: 2 }))
+    }
+
+    // Auxiliaries are letters 2, 3 and 4. 3 depends on 4, that on 2, and without the last clause 2 on nothing.
+    #[test]
+    fn loop_of_three(rt: LibcRuntime) -> Result<(), Fail> {
+        let heap = rt.alloc();
+        let mut bytes = Vec::from_slice(heap, &[1, 1, 1, 3])?;
+        add_clause(&mut bytes, 4, 3, 1, 16, 0)?;
+        add_clause(&mut bytes, 4, 4, 0, 0, 4)?;
+        let mut open = Vec::from_slice(heap, bytes.as_slice())?;
+        open.push(15)?;
+        expect(heap, open.as_slice(), Ok(()))?;
+        add_clause(&mut bytes, 4, 2, 0, 8, 0)?;
+        bytes.push(15)?;
+        expect(heap, bytes.as_slice(), Err(PlanFault::Loop { letter: 2 }))
+    }
+
+    // The second next clause of two for bit 0, with opposite values.
+    fn expect_two(
+        heap: Global,
+        first: (u8, u8),
+        second: (u8, u8),
+        want: Result<(), PlanFault>,
+    ) -> Result<(), Fail> {
+        let mut bytes = Vec::from_slice(heap, &[1, 1, 1, 0])?;
+        let (ones, zeros) = first;
+        add_clause(&mut bytes, 3, 0, 1, ones, zeros)?;
+        let (ones, zeros) = second;
+        add_clause(&mut bytes, 3, 0, 0, ones, zeros)?;
+        bytes.push(15)?;
+        expect(heap, bytes.as_slice(), want)
     }
 
     #[test]
     fn clashes(rt: LibcRuntime) -> Result<(), Fail> {
+        let heap = rt.alloc();
+        // With the line on 1, with it off 0: no clash. Without a condition: a clash.
+        expect_two(heap, (2, 0), (0, 2), Ok(()))?;
+        expect_two(heap, (2, 0), (0, 0), Err(PlanFault::Clash { offset: 15 }))?;
+        // A letter in both masks: the condition is never true, so nothing clashes with it.
+        expect_two(heap, (2, 2), (0, 0), Ok(()))
+    }
+
+    #[test]
+    fn clash_across_repeats(rt: LibcRuntime) -> Result<(), Fail> {
         let heap = rt.alloc();
         expect(heap, &[1, 1, 1, 0, 2, 0, 1, 2, 0, 1, 15], Ok(()))?;
         expect(
             heap,
             &[1, 1, 1, 0, 2, 0, 1, 2, 0, 1, 2, 0, 0, 15],
             Err(PlanFault::Clash { offset: 10 }),
-        )?;
-        // With the line on 1, with it off 0: no clash. Without a condition: a clash.
-        let apart = [
-            1,
-            1,
-            1,
-            0,
-            3,
-            0,
-            1,
-            0,
-            0,
-            0,
-            2,
-            0,
-            0,
-            0,
-            0,
-            3,
-            0,
-            0,
-            0,
-            0,
-            0,
-            0,
-            0,
-            0,
-            0,
-            2,
-            15,
-        ];
-        expect(heap, &apart, Ok(()))?;
-        let both = [
-            1,
-            1,
-            1,
-            0,
-            3,
-            0,
-            1,
-            0,
-            0,
-            0,
-            2,
-            0,
-            0,
-            0,
-            0,
-            3,
-            0,
-            0,
-            0,
-            0,
-            0,
-            0,
-            0,
-            0,
-            0,
-            0,
-            15,
-        ];
-        expect(heap, &both, Err(PlanFault::Clash { offset: 15 }))?;
-        // A letter in both masks: the condition is never true, so nothing clashes with it.
-        let never = [
-            1,
-            1,
-            1,
-            0,
-            3,
-            0,
-            1,
-            0,
-            0,
-            0,
-            2,
-            0,
-            0,
-            0,
-            2,
-            3,
-            0,
-            0,
-            0,
-            0,
-            0,
-            0,
-            0,
-            0,
-            0,
-            0,
-            15,
-        ];
-        expect(heap, &never, Ok(()))
+        )
     }
 
     #[test]
