@@ -1,4 +1,5 @@
 -- An admitted plan is well-formed, free of clashes, and means what its clauses say. Assumes nothing.
+use Rattle.plant.specs.Meaning.{most-bits, most-lines}
 use Prim.Native.Nat.{ℕ, _+_, _^_, _<_, _≤_}
 use native.Mathlib.Omega.{arith}
 use lib.Bits.{bitAnd, bitOr}
@@ -18,7 +19,7 @@ use Rattle.std.proofs.shelf.Bits.{and-le-r, or-lt}
 use Rattle.std.proofs.shelf.Tests.{and-parts, and-from, or-cases, or-left, or-right, eqb-true, eq-eqb, both-ways, not-true, not-from-false, cases-bool, leb-true}
 use Rattle.plant.specs.Bits.{bit}
 use Rattle.plant.specs.Tests.{same, some-of}
-use Rattle.plant.proofs.Bits.{bit-and, bit-or, bit-beyond, same-bits, below-pow}
+use Rattle.plant.proofs.Bits.{bit-and, bit-or, same-bits, below-pow}
 use Rattle.plant.proofs.Bounded.{same-tests, false-when-not}
 use Rattle.plant.proofs.Tests.{same-decides, some-decides}
 use Rattle.records.specs.Reading.{record-at}
@@ -34,7 +35,7 @@ use Rattle.plan.specs.Judging.{Seen, plan-kinds, clashes-with, earlier, kept, 
 use Rattle.plan.specs.Kept.{As-expected}
 use Rattle.plan.specs.Loops.{first-loop}
 use Rattle.plan.specs.Machine.{Parts}
-use Rattle.plan.specs.Sizes.{sizes-fit}
+use Rattle.plan.specs.Sizes.{sizes-fit, most-auxiliaries}
 use Rattle.plan.specs.declared.clause.Clause.{Clause}
 use Rattle.plan.specs.declared.fault.PlanFault.{PlanFault}
 use Rattle.plan.specs.declared.fault.PlanFault.the-variants.{Bytes, HeadMisplaced, SizeLimits}
@@ -43,10 +44,7 @@ use Rattle.plan.proofs.Depending.{Below, none-loops, reached-decides}
 use Rattle.plan.proofs.Fitting.{fitting, followed}
 use Rattle.plan.proofs.Forming.{formed-more, one-more, Passed, through}
 use Rattle.plan.proofs.Judge.{err-ok}
-use Rattle.plan.proofs.Words.{plan-words}
-
-no-bits : (i : ℕ) → bit 0 i ≡ false
-no-bits i = bit-beyond 0 0 i (omega arith) (omega arith)
+use Rattle.plan.proofs.Words.{no-bits, plan-words}
 
 -- the computed test for a clash, in words
 module _ (c d : Clause) where
@@ -172,17 +170,17 @@ good-none b n m fits = record {
 -- a state bit's letter has a place in a mask
 small-letters : (p : Parts) → Well-formed p → (c : Clause) → List·Memᴰ c (p .nexts) → c .letter < 32
 small-letters p w c here =
-    let few : p .bits ≤ 8 = leb-true (p .bits) 8 (and-parts (leb 1 (p .bits)) (leb (p .bits) 8) (and-parts (leb 1 (p .bits) && leb (p .bits) 8) _ (w .sizes) .0) .1) in
+    let few : p .bits ≤ most-bits = leb-true (p .bits) most-bits (and-parts (leb 1 (p .bits)) (leb (p .bits) most-bits) (and-parts (leb 1 (p .bits) && leb (p .bits) most-bits) _ (w .sizes) .0) .1) in
     let lt = w .nexts c here .0 in
     omega arith
 
-few-letters : (p : Parts) → Well-formed p → letters p ≤ 20
+few-letters : (p : Parts) → Well-formed p → letters p ≤ most-bits + most-lines + most-auxiliaries
 few-letters p w =
-    let parts = and-parts (leb 1 (p .bits) && leb (p .bits) 8) _ (w .sizes) in
-    let few-bits : p .bits ≤ 8 = leb-true (p .bits) 8 (and-parts (leb 1 (p .bits)) (leb (p .bits) 8) (parts .0) .1) in
-    let rest = and-parts (leb 1 (p .lines) && leb (p .lines) 4) (leb (p .auxiliaries) 8) (parts .1) in
-    let few-lines : p .lines ≤ 4 = leb-true (p .lines) 4 (and-parts (leb 1 (p .lines)) (leb (p .lines) 4) (rest .0) .1) in
-    let few-auxiliaries : p .auxiliaries ≤ 8 = leb-true (p .auxiliaries) 8 (rest .1) in
+    let parts = and-parts (leb 1 (p .bits) && leb (p .bits) most-bits) _ (w .sizes) in
+    let few-bits : p .bits ≤ most-bits = leb-true (p .bits) most-bits (and-parts (leb 1 (p .bits)) (leb (p .bits) most-bits) (parts .0) .1) in
+    let rest = and-parts (leb 1 (p .lines) && leb (p .lines) most-lines) (leb (p .auxiliaries) most-auxiliaries) (parts .1) in
+    let few-lines : p .lines ≤ most-lines = leb-true (p .lines) most-lines (and-parts (leb 1 (p .lines)) (leb (p .lines) most-lines) (rest .0) .1) in
+    let few-auxiliaries : p .auxiliaries ≤ most-auxiliaries = leb-true (p .auxiliaries) most-auxiliaries (rest .1) in
     omega arith
 
 small-masks : (p : Parts) → Well-formed p → Below (letters p) (p .auxes)

@@ -12,13 +12,13 @@ use Rattle.std.specs.declared.option.Option.the-variants.{None, Some}
 use Rattle.std.proofs.shelf.Bits.{or-lt}
 use Rattle.std.proofs.shelf.Tests.{or-cases, or-left, or-right, eqb-true, eq-eqb, both-ways, cases-lt}
 use Rattle.plant.specs.Bits.{bit, pack}
-use Rattle.plant.proofs.Bits.{bit-or, bit-beyond, bit-pack, pack-small, same-bits, below-pow}
+use Rattle.plant.proofs.Bits.{bit-or, bit-pack, pack-small, same-bits, below-pow}
 use Rattle.plan.specs.Depends.{Names, Depends}
 use Rattle.plan.specs.Depends.Depends.{directly, through}
 use Rattle.plan.specs.Extension.{letter-mask}
 use Rattle.plan.specs.Loops.{gathered, further, reached, first-loop}
 use Rattle.plan.specs.declared.clause.Clause.{Clause}
-use Rattle.plan.proofs.Words.{bit-letter}
+use Rattle.plan.proofs.Words.{bit-letter, no-bits}
 
 -- the letters in the condition of a clause
 abbrev pub named : Clause → ℕ
@@ -141,7 +141,7 @@ module _ (n : ℕ) (cs : List Clause) (small : Below n cs) (l : ℕ) (lt : l < 3
 
   first-only : (k : ℕ) → bit first k ≡ true → Depends cs l k
   first-only k has =
-      ⊎-elim (λ none. absurd (both-ways _ (bit-beyond 0 0 k (omega arith) (omega arith)) none))
+      ⊎-elim (λ none. absurd (both-ways _ (no-bits k) none))
       (λ w. directly (names-of cs (w .0) l k (w .1) (eqb-true _ _ (sym (bit-letter l (w .0 .letter) lt) ∙ w .2)) (w .3)))
       (gathered-only cs (letter-mask l) 0 k has)
 

@@ -16,7 +16,7 @@ use Rattle.records.specs.declared.BytesFault.the-variants.{Unfinished, AfterEnd
 use Rattle.records.specs.declared.Record.{Record}
 use Rattle.plan.specs.Formed.{Well-formed, Within-letters, letters}
 use Rattle.plan.specs.Items.{always, clause-at, item-fits}
-use Rattle.plan.specs.Judging.{Seen, plan-kinds, with-clause, kept, judge-clash, judge-end, judge-found, judge-from, judge-loop, judge-record, judge-whole, go-on}
+use Rattle.plan.specs.Judging.{Seen, plan-kinds, with-clause, kept, judge-clash, judge-end, judge-found, judge-from, judge-loop, judge-record, judge-whole, go-on, most-clauses}
 use Rattle.plan.specs.Loops.{first-loop}
 use Rattle.plan.specs.Machine.{Parts}
 use Rattle.plan.specs.declared.clause.Clause.{Clause}
@@ -104,9 +104,9 @@ kept-fits bs s t o code e = by-head (eqb code 1) refl e
     by-count true r = absurd (err-ok (TooManyClauses o) t r)
     by-count false r = by-fit (item-fits (s .parts .bits) (s .parts .lines) (s .parts .auxiliaries) bs o code) refl r
 
-    by-head : (b : Bool) → eqb code 1 ≡ b → cond b (Err (HeadMisplaced o)) (cond (leb 96 (s .count)) (Err (TooManyClauses o)) (cond (item-fits (s .parts .bits) (s .parts .lines) (s .parts .auxiliaries) bs o code) (Ok (kept s o code (clause-at bs o code))) (Err (Malformed o)))) ≡ Ok t → (item-fits (s .parts .bits) (s .parts .lines) (s .parts .auxiliaries) bs o code ≡ true) × (t ≡ kept s o code (clause-at bs o code))
+    by-head : (b : Bool) → eqb code 1 ≡ b → cond b (Err (HeadMisplaced o)) (cond (leb most-clauses (s .count)) (Err (TooManyClauses o)) (cond (item-fits (s .parts .bits) (s .parts .lines) (s .parts .auxiliaries) bs o code) (Ok (kept s o code (clause-at bs o code))) (Err (Malformed o)))) ≡ Ok t → (item-fits (s .parts .bits) (s .parts .lines) (s .parts .auxiliaries) bs o code ≡ true) × (t ≡ kept s o code (clause-at bs o code))
     by-head true is r = absurd (err-ok (HeadMisplaced o) t r)
-    by-head false is r = by-count (leb 96 (s .count)) r
+    by-head false is r = by-count (leb most-clauses (s .count)) r
 
 -- what is true at first and is kept by every record is true of an admitted plan, which came through the last checks
 module _ (bs : List ℕ) (Good : Seen → Type 0) (step : (s : Seen) (o code : ℕ) → item-fits (s .parts .bits) (s .parts .lines) (s .parts .auxiliaries) bs o code ≡ true → Good s → Good (kept s o code (clause-at bs o code))) where

@@ -21,7 +21,7 @@ use Rattle.plan.specs.Machine.{Parts, Fits, Plan-words, plan-meaning, extensio
 use Rattle.plan.specs.declared.clause.Clause.{Clause}
 use Rattle.plan.specs.declared.clause.Condition.{Condition}
 
-no-bits : (i : ℕ) → bit 0 i ≡ false
+pub no-bits : (i : ℕ) → bit 0 i ≡ false
 no-bits i = bit-beyond 0 0 i (omega arith) (omega arith)
 
 -- a condition that holds, letter by letter

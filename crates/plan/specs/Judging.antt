@@ -64,7 +64,7 @@ abbrev pub earlier : Option ℕ → Bool → ℕ → Option ℕ
 earlier (Some o) test offset = Some o
 earlier None test offset = cond test (Some offset) None
 
--- the first clash, with one clause more
+-- what was read so far, with one clause or ban more
 abbrev pub kept : Seen → ℕ → ℕ → Clause → Seen
 kept s offset code c = record {
   parts = with-clause (s .parts) code c;

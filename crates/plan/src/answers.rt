@@ -1,5 +1,6 @@
 // The five answers of a clause plan.
 ghost use mathlib.Core.Bool.{not};
+ghost use Rattle.plan.specs.Sizes.{most-auxiliaries};
 ghost use mathlib.Core.Path.{_≡_};
 ghost use Prim.Native.Nat.{_^_, _<_, _≤_};
 ghost use Rattle.plant.specs.Bounded.{all-below, any-below};
@@ -39,14 +40,14 @@ impl Plan {
 
     // How many assignments the auxiliaries have.
     fn assignments(&self) -> u32
-        ensures { λ r. ⌜ r ≡ 2 ^ now (self .entry) .auxiliaries ⌝ ∗ ⌜ r ≤ 256 ⌝ }
+        ensures { λ r. ⌜ r ≡ 2 ^ now (self .entry) .auxiliaries ⌝ ∗ ⌜ r ≤ 2 ^ most-auxiliaries ⌝ }
     {
         1 << self.auxiliaries
     }
 
     // The extension of the pair by the assignment `x` of the auxiliaries.
     fn extended(&self, state: u32, setting: u32, x: u32) -> u32
-        requires { ⌜ state < 2 ^ now self .«state_bits» ⌝ ∗ ⌜ setting < 2 ^ now self .lines ⌝ ∗ ⌜ x < 256 ⌝ }
+        requires { ⌜ state < 2 ^ now self .«state_bits» ⌝ ∗ ⌜ setting < 2 ^ now self .lines ⌝ ∗ ⌜ x < 2 ^ most-auxiliaries ⌝ }
         ensures { λ r. ⌜ r ≡ extension (parts-of (now (self .entry))) state setting x ⌝ }
     {
         word_of(self.state_bits, self.lines, state, setting, x)

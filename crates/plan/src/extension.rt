@@ -1,4 +1,6 @@
 // One extension of a pair: a word of all letters, state bits first, then lines, then auxiliaries.
+ghost use Rattle.plant.specs.Meaning.{most-bits, most-lines};
+ghost use Rattle.plan.specs.Sizes.{most-auxiliaries};
 ghost use mathlib.Core.Path.{_≡_};
 ghost use Prim.Native.Nat.{_+_, _^_, _<_, _≤_};
 ghost use Rattle.plant.specs.Tests.{all-of, some-of};
@@ -58,7 +60,7 @@ pub(crate) fn forced_bits(nexts: &[Clause], word: u32) -> (u32, u32)
 
 // The word of a state, a setting and an assignment of the auxiliaries.
 pub(crate) fn word_of(state_bits: u32, lines: u32, state: u32, setting: u32, x: u32) -> u32
-    requires { ⌜ «state_bits» ≤ 8 ⌝ ∗ ⌜ lines ≤ 4 ⌝ ∗ ⌜ state < 2 ^ «state_bits» ⌝ ∗ ⌜ setting < 2 ^ lines ⌝ ∗ ⌜ x < 256 ⌝ }
+    requires { ⌜ «state_bits» ≤ most-bits ⌝ ∗ ⌜ lines ≤ most-lines ⌝ ∗ ⌜ state < 2 ^ «state_bits» ⌝ ∗ ⌜ setting < 2 ^ lines ⌝ ∗ ⌜ x < 2 ^ most-auxiliaries ⌝ }
     ensures { λ r. ⌜ r ≡ word-of «state_bits» lines state setting x ⌝ }
 {
     state | setting << state_bits | x << (state_bits + lines)

@@ -1,4 +1,6 @@
 // The parts of a record's body.
+ghost use Rattle.plant.specs.Meaning.{most-bits, most-lines};
+ghost use Rattle.plan.specs.Sizes.{most-auxiliaries};
 ghost use mathlib.Core.Path.{_≡_};
 ghost use Prim.Native.Nat.{_+_, _<_, _≤_};
 ghost use Rattle.plan.specs.Items.{byte, mask-at, condition-at, clause-at, letter-fits, item-fits};
@@ -65,7 +67,7 @@ pub(crate) fn clause_at(bytes: &[u8], offset: usize, code: u8) -> Clause
 
 // Whether the letter is of the sort that the kind wants.
 fn letter_fits(sizes: Sizes, code: u8, letter: u32) -> bool
-    requires { ⌜ sizes .bits ≤ 8 ⌝ ∗ ⌜ sizes .lines ≤ 4 ⌝ ∗ ⌜ sizes .auxiliaries ≤ 8 ⌝ }
+    requires { ⌜ sizes .bits ≤ most-bits ⌝ ∗ ⌜ sizes .lines ≤ most-lines ⌝ ∗ ⌜ sizes .auxiliaries ≤ most-auxiliaries ⌝ }
     ensures { λ r. ⌜ r ≡ letter-fits (sizes .bits) (sizes .lines) (sizes .auxiliaries) code letter ⌝ }
 {
     let pair = sizes.bits + sizes.lines;
@@ -77,7 +79,7 @@ fn letter_fits(sizes: Sizes, code: u8, letter: u32) -> bool
 
 // Whether letter, value and masks of the record at `offset` are in order; `clause` is what it says.
 pub(crate) fn item_fits(sizes: Sizes, bytes: &[u8], offset: usize, code: u8, clause: Clause) -> bool
-    requires { ⌜ sizes .bits ≤ 8 ⌝ ∗ ⌜ sizes .lines ≤ 4 ⌝ ∗ ⌜ sizes .auxiliaries ≤ 8 ⌝ ∗ ⌜ offset + 64 < 18446744073709551616 ⌝ ∗ ⌜ clause ≡ clause-at (now bytes) offset code ⌝ }
+    requires { ⌜ sizes .bits ≤ most-bits ⌝ ∗ ⌜ sizes .lines ≤ most-lines ⌝ ∗ ⌜ sizes .auxiliaries ≤ most-auxiliaries ⌝ ∗ ⌜ offset + 64 < 18446744073709551616 ⌝ ∗ ⌜ clause ≡ clause-at (now bytes) offset code ⌝ }
     ensures { λ r. ⌜ r ≡ item-fits (sizes .bits) (sizes .lines) (sizes .auxiliaries) (now (bytes .entry)) offset code ⌝ }
 {
     let letter = byte_at(bytes, offset + 1) as u32;

@@ -5,6 +5,12 @@ ghost use Rattle.plan.specs.Sizes.{sizes-fit};
 use crate::clause::Clause;
 use crate::clause::Condition;
 
+// The most auxiliaries that a plan may have.
+pub(crate) const MAX_AUXILIARIES: u32 = 8;
+
+// The most clauses and bans that a plan may have.
+pub(crate) const MAX_CLAUSES: usize = 96;
+
 // How many state bits, drive lines and auxiliaries there are.
 #[derive(Clone, Copy)]
 pub(crate) struct Sizes {

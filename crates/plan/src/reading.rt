@@ -1,5 +1,6 @@
 // Reading a plan, record by record.
 ghost use mathlib.Core.Bool.{_&&_};
+ghost use Rattle.plant.specs.Meaning.{most-bits, most-lines};
 ghost use mathlib.Core.Path.{_≡_};
 ghost use Prim.Native.Nat.{_+_, _<_, _≤_};
 ghost use lib.ListN.{length};
@@ -7,10 +8,10 @@ ghost use Rattle.plant.specs.Tests.{some-of};
 ghost use Rattle.std.specs.Vec.{made};
 ghost use Rattle.plan.specs.Admitted.{Admitted};
 ghost use Rattle.plan.specs.Items.{clash};
-ghost use Rattle.plan.specs.Judging.{clashes-with, earlier, with-clause, judge, judge-record, judge-from, judge-whole};
+ghost use Rattle.plan.specs.Judging.{clashes-with, earlier, with-clause, judge, judge-record, judge-from, judge-whole, most-clauses};
 ghost use Rattle.plan.specs.Held.{parts-of};
 ghost use Rattle.plan.specs.Kept.{As-expected, Read-up, seen-of};
-ghost use Rattle.plan.specs.Sizes.{sizes-fit};
+ghost use Rattle.plan.specs.Sizes.{sizes-fit, most-auxiliaries};
 ghost use Rattle.plan.specs.declared.fault.PlanFault.the-variants.{Memory};
 ghost use Rattle.std.specs.Results.{Cases};
 use crate::clause::Clause;
@@ -21,6 +22,8 @@ use crate::fields::clause_at;
 use crate::fields::item_fits;
 use crate::fields::sizes_at;
 use crate::loops::first_looping;
+use crate::plan::MAX_AUXILIARIES;
+use crate::plan::MAX_CLAUSES;
 use crate::plan::Plan;
 use crate::plan::Sizes;
 use plant::MAX_LINES;
@@ -45,7 +48,7 @@ fn some_clash(clauses: &[Clause], clause: Clause) -> bool
 
 impl Plan {
     fn sizes(&self) -> Sizes
-        ensures { λ r. ⌜ (r .bits ≡ now (self .entry) .«state_bits») × (r .lines ≡ now (self .entry) .lines) × (r .auxiliaries ≡ now (self .entry) .auxiliaries) ⌝ ∗ ⌜ r .bits ≤ 8 ⌝ ∗ ⌜ r .lines ≤ 4 ⌝ ∗ ⌜ r .auxiliaries ≤ 8 ⌝ }
+        ensures { λ r. ⌜ (r .bits ≡ now (self .entry) .«state_bits») × (r .lines ≡ now (self .entry) .lines) × (r .auxiliaries ≡ now (self .entry) .auxiliaries) ⌝ ∗ ⌜ r .bits ≤ most-bits ⌝ ∗ ⌜ r .lines ≤ most-lines ⌝ ∗ ⌜ r .auxiliaries ≤ most-auxiliaries ⌝ }
     {
         Sizes {
             bits: self.state_bits,
@@ -102,16 +105,16 @@ impl Reading {
 
     // One record that is not the end: no head, not one clause too many, in order.
     fn take_record(&mut self, bytes: &[u8], found: Record) -> Result<(), PlanFault>
-        requires { ⌜ found .offset + 64 < 18446744073709551616 ⌝ ∗ ⌜ 1 ≤ found .code ⌝ ∗ ⌜ found .code ≤ 5 ⌝ ∗ ⌜ now self .count ≤ 96 ⌝ }
+        requires { ⌜ found .offset + 64 < 18446744073709551616 ⌝ ∗ ⌜ 1 ≤ found .code ⌝ ∗ ⌜ found .code ≤ 5 ⌝ ∗ ⌜ now self .count ≤ most-clauses ⌝ }
         ensures expected { λ r. ⌜ As-expected (judge-record (now (bytes .entry)) (seen-of (now (self .entry))) (found .offset) (found .code)) (λ _. seen-of (now (self .exit))) r ⌝ }
-        ensures few { λ _. ⌜ now (self .exit) .count ≤ 96 ⌝ }
+        ensures few { λ _. ⌜ now (self .exit) .count ≤ most-clauses ⌝ }
     {
         let offset = found.offset;
         let code = found.code;
         if code == 1 {
             return Err(PlanFault::HeadMisplaced { offset });
         }
-        if self.count >= 96 {
+        if self.count >= MAX_CLAUSES {
             return Err(PlanFault::TooManyClauses { offset });
         }
         let clause = clause_at(bytes, offset, code);
@@ -158,7 +161,7 @@ const KINDS: [Kind; 6] = [
 
 // Reads the records from `start` on, up to the end record, after which nothing stands.
 fn read_records(bytes: &[u8], reading: &mut Reading, start: usize) -> Result<(), PlanFault>
-    requires { ⌜ now reading .count ≤ 96 ⌝ }
+    requires { ⌜ now reading .count ≤ most-clauses ⌝ }
     ensures { λ r. ⌜ Read-up (judge-from (length (now (bytes .entry))) (now (bytes .entry)) (seen-of (now (reading .entry))) start) (judge-whole (seen-of (now (reading .exit)))) r ⌝ }
 {
     let mut at = start;
@@ -177,7 +180,7 @@ fn sizes_fit(sizes: Sizes) -> bool
     ensures { λ r. ⌜ r ≡ sizes-fit (sizes .bits) (sizes .lines) (sizes .auxiliaries) ⌝ }
 {
     (1 <= sizes.bits && sizes.bits <= MAX_STATE_BITS)
-        && ((1 <= sizes.lines && sizes.lines <= MAX_LINES) && sizes.auxiliaries <= 8)
+        && ((1 <= sizes.lines && sizes.lines <= MAX_LINES) && sizes.auxiliaries <= MAX_AUXILIARIES)
 }
 
 impl Plan {

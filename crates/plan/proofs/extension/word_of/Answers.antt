@@ -1,3 +1,4 @@
+use Rattle.plan.specs.Sizes.{most-auxiliaries}
 use Prim.Native.Nat.{_+_, _*_, _%_, _^_, _<_}
 use lib.Bits.{bitOr}
 use lib.Pow.{pow-add}
@@ -18,7 +19,7 @@ returns c =
     let s-small : s < 2 ^ b = c .pre .1 .1 .0 in
     let a-small : a < 2 ^ n = c .pre .1 .1 .1 .0 in
     let middle : (a * 2 ^ b) % 2 ^ 32 ≡ a * 2 ^ b = shl-whole a n b 32 a-small (omega arith) in
-    let upper : (x * 2 ^ (b + n)) % 2 ^ 32 ≡ x * 2 ^ (b + n) = shl-whole x 8 (b + n) 32 (omega arith) (omega arith) in
+    let upper : (x * 2 ^ (b + n)) % 2 ^ 32 ≡ x * 2 ^ (b + n) = shl-whole x most-auxiliaries (b + n) 32 (omega arith) (omega arith) in
     let low : bitOr s (a * 2 ^ b) ≡ a * 2 ^ b + s = or-comm s (a * 2 ^ b) ∙ or-shifted a b s s-small in
     let whole : 2 ^ n * 2 ^ b ≡ 2 ^ (b + n) = mul-comm (2 ^ n) (2 ^ b) ∙ sym (pow-add 2 b n) in
     let pair-small : a * 2 ^ b + s < 2 ^ (b + n) = subst (λ k. a * 2 ^ b + s < k) whole (digits-lt a-small s-small) in
