@@ -1,4 +1,6 @@
 // What is kept of a machine and what it tells later: a plan, the rule file of its draft, and logs.
+#![tactic(auto)]
+
 mod drafting;
 mod fault;
 mod judging;

@@ -1,4 +1,6 @@
 // Tests of rule files, log files and verdicts, at the edges.
+#![tactic(auto)]
+
 #[cfg(test)]
 mod tests {
     use archive::{ArchiveFault, DraftFileFault, Verdict, draft_file, verdict_on};

@@ -1,4 +1,6 @@
 // Reads every stored rule file, drafts every stored plan and runs every stored log, and compares with the stored answers.
+#![tactic(auto)]
+
 use archive::{draft_file, verdict_on};
 use rule_file::read_rules;
 use rules::{MAX_RULES, Rule};

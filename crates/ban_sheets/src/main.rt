@@ -1,4 +1,6 @@
 // Lays bans over a clause plan and over a bench table, and prints the sheets: a line for each state, with a digit for each setting, 1 where it is open.
+#![tactic(auto)]
+
 use anyhow::anyhow;
 use bench::{BenchTable, Move};
 use draft::draft;

@@ -1,4 +1,6 @@
 // A bench table: a plant given by a list of starts and a list of moves.
+#![tactic(auto)]
+
 mod answers;
 mod build;
 mod entry;

@@ -1,4 +1,6 @@
 // Drafts two bench tables, one that can be kept safe for ever and one that can not, and prints what came of it.
+#![tactic(auto)]
+
 use bench::{BenchTable, Move};
 use draft::draft;
 use plant::Row;

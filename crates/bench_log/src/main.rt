@@ -1,4 +1,6 @@
 // Drafts a bench table and reads a short session against its rules, call by call.
+#![tactic(auto)]
+
 use bench::{BenchTable, Move};
 use draft::draft;
 use plant::Row;

@@ -1,4 +1,6 @@
 // Reads a plan, a rule file and a log from named paths, and says of each call whether it was permitted.
+#![tactic(auto)]
+
 use archive::{ArchiveFault, Verdict, verdict_on};
 use log_file::{Entry, entry_at};
 use plan::Plan;

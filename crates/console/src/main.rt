@@ -1,4 +1,6 @@
 // A session on the brake plan, driven by stands: at each tick the console offers a setting, falls back on the suggestion, and is told what the machine did.
+#![tactic(auto)]
+
 use draft::draft;
 use plan::Plan;
 use plant::Row;

@@ -1,4 +1,6 @@
 // The draft: from any plant the largest safe assignment of settings, written as rows and as rules.
+#![tactic(auto)]
+
 ghost use Rattle.std.specs.Prelude.{◌≡◌, ◌≤◌, length, IfOk};
 ghost use Rattle.plant.specs.Meaning.{states};
 ghost use Rattle.draft.specs.Outcome.{Answered, Drafted};

@@ -1,4 +1,6 @@
 // Tests of bench tables and of drafts over them.
+#![tactic(auto)]
+
 #[cfg(test)]
 mod tests {
     use bench::{BenchTable, Move, TableFault};

@@ -1,4 +1,6 @@
 // Tests of ban layers.
+#![tactic(auto)]
+
 #[cfg(test)]
 mod tests {
     use bench::{BenchTable, Move};

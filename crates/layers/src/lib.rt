@@ -1,4 +1,6 @@
 // Layers: plants that stand on another plant. The ban layer forbids settings that the plant below allows.
+#![tactic(auto)]
+
 mod answers;
 mod ban;
 mod build;

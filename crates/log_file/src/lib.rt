@@ -1,4 +1,6 @@
 // Log files: the calls of a session as bytes, run on a log reader.
+#![tactic(auto)]
+
 mod entry;
 mod fault;
 mod run;

@@ -1,4 +1,6 @@
 // Rows of two drafts laid over each other, and that they are no draft.
+#![tactic(auto)]
+
 ghost use Rattle.std.specs.Prelude.{◌≡◌, ℕ, ◌&&◌};
 ghost use Rattle.plant.specs.Bits.{bit};
 ghost use Rattle.overlay.specs.Together.{WithinEach, SmallerTogether};

@@ -1,4 +1,6 @@
 // Clause plans: a machine described by clauses, read from bytes and answered as a plant.
+#![tactic(auto)]
+
 mod answers;
 mod clause;
 mod extension;

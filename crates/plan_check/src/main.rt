@@ -1,4 +1,6 @@
 // Reads a plan from standard input, and prints what it holds or why it is turned away.
+#![tactic(auto)]
+
 use plan::{Plan, PlanFault};
 use plant::Plant;
 use std::io;

@@ -1,4 +1,6 @@
 // Tests of reading plans, at the edges.
+#![tactic(auto)]
+
 #[cfg(test)]
 mod tests {
     use plan::{Plan, PlanFault};

@@ -1,4 +1,6 @@
 // Reads every stored plan, and compares whether it is admitted, or with what refused, with the stored answers.
+#![tactic(auto)]
+
 use plan::Plan;
 use std::alloc::Global;
 use std::fs;

@@ -1,4 +1,6 @@
 // A plant: anything that answers five questions about a machine's states, drive lines and moves.
+#![tactic(auto)]
+
 ghost use Rattle.std.specs.Prelude.{◌≡◌, ◌^◌};
 ghost use Rattle.plant.specs.Meaning.{Meaning, Within};
 

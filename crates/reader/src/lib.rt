@@ -1,4 +1,6 @@
 // The log reader: it says of each call of a session whether it is taken.
+#![tactic(auto)]
+
 mod call;
 mod fault;
 mod phase;

@@ -1,4 +1,6 @@
 // Tests of the log reader.
+#![tactic(auto)]
+
 #[cfg(test)]
 mod tests {
     use bench::{BenchTable, Move};

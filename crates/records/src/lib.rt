@@ -1,4 +1,6 @@
 // Records: one byte of kind and a body whose length the kind fixes. Plans, rule files and log files are made of them.
+#![tactic(auto)]
+
 ghost use Rattle.std.specs.Prelude.{◌≡◌};
 ghost use Rattle.records.specs.Reading.{record_at, body_length};
 ghost use Rattle.records.specs.Faults.{bytes_refusal};

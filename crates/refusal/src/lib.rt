@@ -1,4 +1,6 @@
 // A refusal as users see it: a number, a place and the layer that raised it.
+#![tactic(auto)]
+
 ghost use Rattle.std.specs.Prelude.{◌≡◌, Some};
 ghost use Rattle.refusal.specs.Shown.{layer_word, refusal_line};
 

@@ -1,4 +1,6 @@
 // Rule files: a list of drive rules as bytes, read and written.
+#![tactic(auto)]
+
 mod fault;
 mod order;
 mod reading;

@@ -1,4 +1,6 @@
 // Drive rules: what a rule is, and whether a setting fits a list of them.
+#![tactic(auto)]
+
 ghost use Rattle.std.specs.Prelude.{◌≡◌, ◌^◌, ◌<◌, ◌≤◌, Some, Decides, nat_lt};
 ghost use Rattle.plant.specs.Meaning.{most_lines, most_bits};
 ghost use Rattle.rules.specs.Shown.{rule_line};

@@ -1,4 +1,6 @@
 // Reads a plan from standard input, and prints its sheet: which settings are open in each state, or why there is none.
+#![tactic(auto)]
+
 ghost use Rattle.std.specs.Prelude.{◌≤◌, IfOk};
 ghost use Rattle.sheet_call.specs.Room.{input_needed};
 

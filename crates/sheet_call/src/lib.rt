@@ -1,4 +1,6 @@
 // The sheet: from the bytes of a plan to a line for each state that says which settings are open.
+#![tactic(auto)]
+
 ghost use Rattle.std.specs.Prelude.{◌≡◌, ◌≤◌, length, IfOk};
 ghost use Rattle.plant.specs.Meaning.{states};
 ghost use Rattle.draft.specs.Rows.{places_needed};

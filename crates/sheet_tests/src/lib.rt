@@ -1,4 +1,6 @@
 // Tests of the sheet call, at the edges.
+#![tactic(auto)]
+
 #[cfg(test)]
 mod tests {
     use draft::DraftFault;

@@ -1,4 +1,6 @@
 // Makes the sheet of every stored plan, and compares its text and its rules with the stored ones.
+#![tactic(auto)]
+
 use plant::Row;
 use rule_file::write_rules;
 use rules::Rule;

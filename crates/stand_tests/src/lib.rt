@@ -1,4 +1,6 @@
 // Tests of the console's stands.
+#![tactic(auto)]
+
 #[cfg(test)]
 mod tests {
     use bench::{BenchTable, Move};

@@ -1,4 +1,6 @@
 // The sweep: the greatest lasting set of a plant's states.
+#![tactic(auto)]
+
 ghost use Rattle.std.specs.Prelude.{◌≡◌, ℕ, ◌<◌, true, false, length, Decides, slice_index_or};
 ghost use Rattle.plant.specs.Meaning.{states};
 ghost use Rattle.plant.specs.Lasting.{Stays};

@@ -1,4 +1,6 @@
 // Worked cases, as a fact about the definitions that the contracts of the calls cite.
+#![tactic(auto)]
+
 ghost use Rattle.std.specs.Prelude.{◌≡◌};
 ghost use Rattle.worked.specs.Plans.{brake};
 ghost use Rattle.worked.specs.Worked.{Worked};

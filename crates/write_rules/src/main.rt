@@ -1,4 +1,6 @@
 // Drafts a plan from a named path, and writes its rule file to another.
+#![tactic(auto)]
+
 use archive::{DraftFileFault, draft_file};
 use rules::MAX_RULES;
 use std::{env, fs, io};
