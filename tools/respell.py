@@ -33,7 +33,13 @@ def own_path(path, mine):
     return any(os.path.isfile(os.path.join("crates", parts[1], *parts[2:n]) + ".antt") for n in range(3, len(parts) + 1))
 
 
+# Two lemmas on bits would have the name of a function of the kit.
+APART = {"bit-and": "bit_of_and", "bit-or": "bit_of_or"}
+
+
 def new_name(old):
+    if old in APART:
+        return APART[old]
     parts = [p for p in re.split(r"[-_]", old) if p]
     if old[0].isupper():
         return "".join(p[0].upper() + p[1:] for p in parts)

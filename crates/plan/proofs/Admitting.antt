@@ -8,7 +8,7 @@ use Rattle.std.proofs.lemmas.Nat.{and_le_r, or_lt}
 use Rattle.std.proofs.lemmas.Bool.{and_parts, and_from, or_cases, or_left, or_right, eqb-true, eq-eqb, both_ways, not-true, not_from_false, cases_Bool}
 use Rattle.plant.specs.Bits.{bit}
 use Rattle.plant.specs.Tests.{same, some_of}
-use Rattle.plant.proofs.Bits.{bit_and, bit_or, no_bits, same_bits, below_pow}
+use Rattle.plant.proofs.Bits.{bit_of_and, bit_of_or, no_bits, same_bits, below_pow}
 use Rattle.plant.proofs.Bounded.{same_tests, false_when_not}
 use Rattle.plant.proofs.Tests.{same_decides, some_decides}
 use Rattle.records.specs.Reading.{record_at}
@@ -46,7 +46,7 @@ module _ (c d : Clause) where
 
   -- no letter is wanted on by one and off by the other
   apart : (i : ℕ) → bit_and ones zeros ≡ 0 → bit ones i ≡ true → bit zeros i ≡ true → ⊥
-  apart i none on off = both_ways _ (no_bits i) (ap (λ x. bit x i) (sym none) ∙ bit_and ones zeros i ∙ and_from _ _ on off)
+  apart i none on off = both_ways _ (no_bits i) (ap (λ x. bit x i) (sym none) ∙ bit_of_and ones zeros i ∙ and_from _ _ on off)
 
   pub clash_decides : Decides (clash c d) (Clash c d)
   clash_decides = (
@@ -60,12 +60,12 @@ module _ (c d : Clause) where
           together = (
             ones,
             record {
-              on = λ i has. bit_or c.condition.ones d.condition.ones i ∙ or_left _ _ has;
-              off = λ i has. off_there i none (bit_or c.condition.zeros d.condition.zeros i ∙ or_left _ _ has);
+              on = λ i has. bit_of_or c.condition.ones d.condition.ones i ∙ or_left _ _ has;
+              off = λ i has. off_there i none (bit_of_or c.condition.zeros d.condition.zeros i ∙ or_left _ _ has);
             },
             record {
-              on = λ i has. bit_or c.condition.ones d.condition.ones i ∙ or_right (bit c.condition.ones i) _ has;
-              off = λ i has. off_there i none (bit_or c.condition.zeros d.condition.zeros i ∙ or_right (bit c.condition.zeros i) _ has);
+              on = λ i has. bit_of_or c.condition.ones d.condition.ones i ∙ or_right (bit c.condition.ones i) _ has;
+              off = λ i has. off_there i none (bit_of_or c.condition.zeros d.condition.zeros i ∙ or_right (bit c.condition.zeros i) _ has);
             },
           );
         },
@@ -73,7 +73,7 @@ module _ (c d : Clause) where
         let w = h.together.0 in
         let none : bit_and ones zeros ≡ 0 =
         same_bits (bit_and ones zeros) 0 zeros (let l = and_le_r ones zeros in let b = below_pow zeros in omega arith) (let b = below_pow zeros in omega arith)
-        (λ i _. bit_and ones zeros i ∙ same_tests _ _ (λ both. let p = and_parts (bit ones i) (bit zeros i) both in absurd (both_ways (bit w i) (off_in h i p.1) (on_in h i p.0))) (λ e. absurd (both_ways _ (no_bits i) e))) in
+        (λ i _. bit_of_and ones zeros i ∙ same_tests _ _ (λ both. let p = and_parts (bit ones i) (bit zeros i) both in absurd (both_ways (bit w i) (off_in h i p.1) (on_in h i p.0))) (λ e. absurd (both_ways _ (no_bits i) e))) in
         and_from _ _
         (and_from _ _ (eq-eqb _ _ h.letter)
         (not_from_false _ (false_when_not _ (same_decides c.value d.value) h.opposite)))
@@ -84,10 +84,10 @@ module _ (c d : Clause) where
       off_there i none off = ⊎_elim (λ on. absurd (apart i none on off)) (λ isnt. isnt) (cases_Bool (bit ones i))
 
       on_in : (h : Clash c d) (i : ℕ) → bit ones i ≡ true → bit h.together.0 i ≡ true
-      on_in h i on = ⊎_elim (h.together.1.on i) (h.together.2.on i) (or_cases _ _ (sym (bit_or c.condition.ones d.condition.ones i) ∙ on))
+      on_in h i on = ⊎_elim (h.together.1.on i) (h.together.2.on i) (or_cases _ _ (sym (bit_of_or c.condition.ones d.condition.ones i) ∙ on))
 
       off_in : (h : Clash c d) (i : ℕ) → bit zeros i ≡ true → bit h.together.0 i ≡ false
-      off_in h i off = ⊎_elim (h.together.1.off i) (h.together.2.off i) (or_cases _ _ (sym (bit_or c.condition.zeros d.condition.zeros i) ∙ off))
+      off_in h i off = ⊎_elim (h.together.1.off i) (h.together.2.off i) (or_cases _ _ (sym (bit_of_or c.condition.zeros d.condition.zeros i) ∙ off))
 
 clash_turned : (c d : Clause) → Clash c d → Clash d c
 clash_turned c d h = record { letter = sym h.letter; opposite = λ e. h.opposite (sym e); together = (h.together.0, h.together.2, h.together.1) }

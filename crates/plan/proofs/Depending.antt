@@ -6,7 +6,7 @@ use mathlib.Core.List.{Memᴰ}
 use Rattle.std.proofs.lemmas.Nat.{or_lt}
 use Rattle.std.proofs.lemmas.Bool.{or_cases, or_left, or_right, eqb-true, eq-eqb, both_ways, cases_lt}
 use Rattle.plant.specs.Bits.{bit}
-use Rattle.plant.proofs.Bits.{bit_or, more_bits, no_bits, below_pow}
+use Rattle.plant.proofs.Bits.{bit_of_or, more_bits, no_bits, below_pow}
 use Rattle.plan.specs.Depends.{Names, Depends}
 use Rattle.plan.specs.Depends.Depends.{directly, through}
 use Rattle.plan.specs.Extension.{letter_mask}
@@ -23,7 +23,7 @@ gathered_keeps [] roots found k has = has
 gathered_keeps (c ∷ cs) roots found k has = gathered_keeps cs roots _ k (by (bit roots c.letter))
   where
     by : (b : Bool) → bit (cond b (bit_or found (named c)) found) k ≡ true
-    by true = bit_or found (named c) k ∙ or_left _ _ has
+    by true = bit_of_or found (named c) k ∙ or_left _ _ has
     by false = has
 
 gathered_adds : (cs : List Clause) (roots found k : ℕ) (c : Clause) → Memᴰ c cs → bit roots c.letter ≡ true → bit (named c) k ≡ true → bit (gathered cs roots found) k ≡ true
@@ -33,7 +33,7 @@ gathered_adds (d ∷ cs) roots found k c here on has =
     (λ is.
     let on_d : bit roots d.letter ≡ true = subst (λ (z : Clause). bit roots z.letter ≡ true) is on in
     let has_d : bit (named d) k ≡ true = subst (λ (z : Clause). bit (named z) k ≡ true) is has in
-    gathered_keeps cs roots _ k (ap (λ (b : Bool). bit (cond b (bit_or found (named d)) found) k) on_d ∙ bit_or found (named d) k ∙ or_right (bit found k) _ has_d))
+    gathered_keeps cs roots _ k (ap (λ (b : Bool). bit (cond b (bit_or found (named d)) found) k) on_d ∙ bit_of_or found (named d) k ∙ or_right (bit found k) _ has_d))
     (λ later. gathered_adds cs roots _ k c later on has)
     (Memᴰ.cases_cons here)
 
@@ -44,7 +44,7 @@ gathered_only (d ∷ cs) roots found k has =
     ⊎_elim (λ old. by (bit roots d.letter) refl old) (λ w. inr (w.0, Memᴰ.tail w.1, w.2, w.3)) (gathered_only cs roots _ k has)
   where
     by : (b : Bool) → bit roots d.letter ≡ b → bit (cond b (bit_or found (named d)) found) k ≡ true → (bit found k ≡ true) ⊎ ((c : Clause) × Memᴰ c (d ∷ cs) × (bit roots c.letter ≡ true) × (bit (named c) k ≡ true))
-    by true on e = ⊎_elim (λ old. inl old) (λ new. inr (d, Memᴰ.head refl, on, new)) (or_cases (bit found k) (bit (named d) k) (sym (bit_or found (named d) k) ∙ e))
+    by true on e = ⊎_elim (λ old. inl old) (λ new. inr (d, Memᴰ.head refl, on, new)) (or_cases (bit found k) (bit (named d) k) (sym (bit_of_or found (named d) k) ∙ e))
     by false on e = inl e
 
 -- the clauses have no letter at or above
@@ -87,11 +87,11 @@ names_of cs c l k here own has = record {
   clause = c;
   here = here;
   own = own;
-  named = or_cases _ _ (sym (bit_or c.condition.ones c.condition.zeros k) ∙ has);
+  named = or_cases _ _ (sym (bit_of_or c.condition.ones c.condition.zeros k) ∙ has);
 }
 
 named_bit : (c : Clause) (k : ℕ) → (bit c.condition.ones k ≡ true) ⊎ (bit c.condition.zeros k ≡ true) → bit (named c) k ≡ true
-named_bit c k w = bit_or c.condition.ones c.condition.zeros k ∙ ⊎_elim (λ one. or_left _ _ one) (λ z. or_right (bit c.condition.ones k) _ z) w
+named_bit c k w = bit_of_or c.condition.ones c.condition.zeros k ∙ ⊎_elim (λ one. or_left _ _ one) (λ z. or_right (bit c.condition.ones k) _ z) w
 
 further_only : (cs : List Clause) (P : ℕ → Type 0) → ((k j : ℕ) → P k → Names cs k j → P j) → (rounds found : ℕ) → ((k : ℕ) → bit found k ≡ true → P k) → (k : ℕ) → bit (further cs rounds found) k ≡ true → P k
 further_only cs P on zero found all k has = all k has

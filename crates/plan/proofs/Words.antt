@@ -8,7 +8,7 @@ use Rattle.std.proofs.lemmas.Bool.{and_parts, and_from, and_cases, or_cases, or_
 use Rattle.plant.specs.Bits.{bit}
 use Rattle.plant.specs.Tests.{same, all_of}
 use Rattle.plan.specs.declared.clause.Condition.{Condition}
-use Rattle.plant.proofs.Bits.{bit_and, bit_or, bit_power, same_bits, below_pow, no_bits}
+use Rattle.plant.proofs.Bits.{bit_of_and, bit_of_or, bit_power, same_bits, below_pow, no_bits}
 use Rattle.plant.proofs.Bounded.{decides_all, decides_any, same_tests, false_when_not}
 use Rattle.plant.proofs.Tests.{same_decides, some_decides}
 use Rattle.plan.specs.Clauses.{holds, Holds, clause_true, ClauseTrue}
@@ -24,17 +24,17 @@ holds_decides c w = (
       let ones = eqb-true _ _ parts.0 in
       let zeros = eqb-true _ _ parts.1 in
       record {
-        on = λ i has. (and_parts (bit w i) _ (sym (bit_and w c.ones i) ∙ ap (λ x. bit x i) ones ∙ has)).0;
+        on = λ i has. (and_parts (bit w i) _ (sym (bit_of_and w c.ones i) ∙ ap (λ x. bit x i) ones ∙ has)).0;
         off = λ i has.
             ⊎_elim (λ f. f) (λ f. absurd (both_ways (bit c.zeros i) f has))
-            (and_cases (bit w i) (bit c.zeros i) (sym (bit_and w c.zeros i) ∙ ap (λ x. bit x i) zeros ∙ no_bits i));
+            (and_cases (bit w i) (bit c.zeros i) (sym (bit_of_and w c.zeros i) ∙ ap (λ x. bit x i) zeros ∙ no_bits i));
       },
   λ h.
       and_from _ _
       (eq-eqb _ _ (same_bits (bit_and w c.ones) c.ones c.ones (let l = and_le_r w c.ones in let b = below_pow c.ones in omega arith) (below_pow c.ones)
-      (λ i _. bit_and w c.ones i ∙ same_tests _ _ (λ e. (and_parts (bit w i) (bit c.ones i) e).1) (λ e. and_from _ _ (h.on i e) e))))
+      (λ i _. bit_of_and w c.ones i ∙ same_tests _ _ (λ e. (and_parts (bit w i) (bit c.ones i) e).1) (λ e. and_from _ _ (h.on i e) e))))
       (eq-eqb _ _ (same_bits (bit_and w c.zeros) 0 c.zeros (let l = and_le_r w c.zeros in let b = below_pow c.zeros in omega arith) (let b = below_pow c.zeros in omega arith)
-      (λ i _. bit_and w c.zeros i ∙ same_tests _ _ (λ e. let p = and_parts (bit w i) (bit c.zeros i) e in absurd (both_ways _ (h.off i p.1) p.0)) (λ e. absurd (both_ways _ (no_bits i) e))))),
+      (λ i _. bit_of_and w c.zeros i ∙ same_tests _ _ (λ e. let p = and_parts (bit w i) (bit c.zeros i) e in absurd (both_ways _ (h.off i p.1) p.0)) (λ e. absurd (both_ways _ (no_bits i) e))))),
 )
 
 clause_decides : (w : ℕ) (c : Clause) → Decides (clause_true w c) (ClauseTrue w c)
@@ -76,15 +76,15 @@ with_decides : (v : Bool) (l : ℕ) → l < 32 → (masks : ℕ × ℕ) (t : ℕ
 with_decides true l lt masks t = (
   λ h. (
     record {
-      on = λ i has. h.on i (bit_or masks.0 (letter_mask l) i ∙ or_left _ _ has);
+      on = λ i has. h.on i (bit_of_or masks.0 (letter_mask l) i ∙ or_left _ _ has);
       off = h.off;
     },
-    h.on l (bit_or masks.0 (letter_mask l) l ∙ or_right (bit masks.0 l) _ (bit_letter l l lt ∙ eq-eqb l l refl)),
+    h.on l (bit_of_or masks.0 (letter_mask l) l ∙ or_right (bit masks.0 l) _ (bit_letter l l lt ∙ eq-eqb l l refl)),
   ),
   λ h v. record {
     on = λ i has.
         ⊎_elim (λ old. h.on i old) (λ new. subst (λ k. bit t k ≡ true) (sym (eqb-true i l (sym (bit_letter l i lt) ∙ new))) v)
-        (or_cases (bit masks.0 i) (bit (letter_mask l) i) (sym (bit_or masks.0 (letter_mask l) i) ∙ has));
+        (or_cases (bit masks.0 i) (bit (letter_mask l) i) (sym (bit_of_or masks.0 (letter_mask l) i) ∙ has));
     off = h.off;
   },
 )
@@ -92,15 +92,15 @@ with_decides false l lt masks t = (
   λ h. (
     record {
       on = h.on;
-      off = λ i has. h.off i (bit_or masks.1 (letter_mask l) i ∙ or_left _ _ has);
+      off = λ i has. h.off i (bit_of_or masks.1 (letter_mask l) i ∙ or_left _ _ has);
     },
-    h.off l (bit_or masks.1 (letter_mask l) l ∙ or_right (bit masks.1 l) _ (bit_letter l l lt ∙ eq-eqb l l refl)),
+    h.off l (bit_of_or masks.1 (letter_mask l) l ∙ or_right (bit masks.1 l) _ (bit_letter l l lt ∙ eq-eqb l l refl)),
   ),
   λ h v. record {
     on = h.on;
     off = λ i has.
         ⊎_elim (λ old. h.off i old) (λ new. subst (λ k. bit t k ≡ false) (sym (eqb-true i l (sym (bit_letter l i lt) ∙ new))) v)
-        (or_cases (bit masks.1 i) (bit (letter_mask l) i) (sym (bit_or masks.1 (letter_mask l) i) ∙ has));
+        (or_cases (bit masks.1 i) (bit (letter_mask l) i) (sym (bit_of_or masks.1 (letter_mask l) i) ∙ has));
   },
 )
 

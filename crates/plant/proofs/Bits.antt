@@ -126,13 +126,13 @@ digit_and false true = refl
 digit_and false false = refl
 
 -- the bits of an or, and of an and
-pub bit_or : (x y i : ℕ) → bit (bit_or x y) i ≡ (bit x i || bit y i)
-bit_or x y i =
+pub bit_of_or : (x y i : ℕ) → bit (bit_or x y) i ≡ (bit x i || bit y i)
+bit_of_or x y i =
     ap (λ z. eqb (z % 2) 1) (or_shr x y i) ∙ ap (λ z. eqb z 1) (or_mod (x / 2 ^ i) (y / 2 ^ i) 1) ∙
     ap₂ (λ d e. eqb (bit_or d e) 1) (bit_digit x i) (bit_digit y i) ∙ digit_or (bit x i) (bit y i)
 
-pub bit_and : (x y i : ℕ) → bit (bit_and x y) i ≡ (bit x i && bit y i)
-bit_and x y i =
+pub bit_of_and : (x y i : ℕ) → bit (bit_and x y) i ≡ (bit x i && bit y i)
+bit_of_and x y i =
     ap (λ z. eqb (z % 2) 1) (and_shr x y i) ∙ ap (λ z. eqb z 1) (and_mod (x / 2 ^ i) (y / 2 ^ i) 1) ∙
     ap₂ (λ d e. eqb (bit_and d e) 1) (bit_digit x i) (bit_digit y i) ∙ digit_and (bit x i) (bit y i)
 
