@@ -13,7 +13,7 @@ returns-in-Some g c =
     let within = g.P.Plant.sound c.args.plant.now in
     let rules = c.args.rules.now in
     let t = c.in-Some.state in
-    let filled : c.fill-rows.new.rows ≡ rows_of m = c.fill-rows.ensures in
+    let filled : c.fill_rows.new.rows ≡ rows_of m = c.fill_rows.ensures in
     let lost : Lost m (rows_of m) t = subst (λ rows. Lost m rows t) filled c.in-Some.ensures in
     subst (λ rows. TurnedAway m rows rules rules t) (sym filled) (turned_away m within rules t lost)
 
@@ -22,10 +22,10 @@ returns g c =
     let m = g.P.Plant.meaning c.args.plant.now in
     let within = g.P.Plant.sound c.args.plant.now in
     let rules = c.args.rules.now in
-    let after = c.write-rules.new.rules in
-    let n = c.write-rules.result in
-    let filled : c.fill-rows.new.rows ≡ rows_of m = c.fill-rows.ensures in
-    let all : AllOpen m (rows_of m) = subst (λ rows. AllOpen m rows) filled c.in-default.ensures in
+    let after = c.write_rules.new.rules in
+    let n = c.write_rules.result in
+    let filled : c.fill_rows.new.rows ≡ rows_of m = c.fill_rows.ensures in
+    let all : AllOpen m (rows_of m) = subst (λ rows. AllOpen m rows) filled c.in_default.ensures in
     let wrote : Wrote rules after 0 n (rules_of m.bits m.lines (rows_of m)) =
-    subst (λ rows. Wrote rules after 0 n (rules_of m.bits m.lines rows)) filled c.write-rules.ensures in
+    subst (λ rows. Wrote rules after 0 n (rules_of m.bits m.lines rows)) filled c.write_rules.ensures in
     subst (λ rows. WentThrough m rows rules after n) (sym filled) (went_through m within rules after n all wrote)

@@ -14,7 +14,7 @@ pub returns-then-breaks : goal.returns-then-breaks
 returns-then-breaks c =
     let s = c.args.state in
     let a = c.args.setting in
-    let b = c.args.state-bits in
+    let b = c.args.state_bits in
     let n = c.args.lines in
     let rules = c.args.rules.now in
     let i = c.loop-rule.rule-index in
@@ -27,7 +27,7 @@ pub loop-rule-preserved : goal.loop-rule-preserved
 loop-rule-preserved c =
     let s = c.args.state in
     let a = c.args.setting in
-    let b = c.args.state-bits in
+    let b = c.args.state_bits in
     let n = c.args.lines in
     let rules = c.args.rules.now in
     let i = c.loop-rule.rule-index in
@@ -38,7 +38,7 @@ pub returns : goal.returns
 returns c =
     let s = c.args.state in
     let a = c.args.setting in
-    let b = c.args.state-bits in
+    let b = c.args.state_bits in
     let n = c.args.lines in
     let rules = c.args.rules.now in
     let value : true ≡ fits b n rules s a =

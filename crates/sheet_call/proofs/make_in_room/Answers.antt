@@ -8,12 +8,12 @@ returns-in-Ok c =
     record {
       outcome = in_room _ _ _ _ c.requires.0 c.requires.1.0 c.requires.1.1 (inr (lines_computed _ _ _ _ _ _ _ _ w));
       within = lines_within _ _ _ _ w;
-      counted = rules_counted _ _ _ _ w (length c.try-sheet.new.rules) (omega arith);
+      counted = rules_counted _ _ _ _ w (length c.try_sheet.new.rules) (omega arith);
     }
 
 pub returns-in-Err : goal.returns-in-Err
 returns-in-Err c = record {
-  outcome = in_room _ _ _ _ c.requires.0 c.requires.1.0 c.requires.1.1 (refusal_computed _ _ _ _ _ _ _ _ _ _ c.in-Err.ensures c.write-refusal.ensures);
-  within = wrote_within c.write-refusal.ensures;
+  outcome = in_room _ _ _ _ c.requires.0 c.requires.1.0 c.requires.1.1 (refusal_computed _ _ _ _ _ _ _ _ _ _ c.in-Err.ensures c.write_refusal.ensures);
+  within = wrote_within c.write_refusal.ensures;
   counted = tt;
 }

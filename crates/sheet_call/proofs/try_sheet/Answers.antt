@@ -16,42 +16,42 @@ meant x = plan_meaning (parts_of x)
 within : (x : Plan) → Within (meant x)
 within x = plan_within (parts_of x) x.fits
 
-pub draft-first-requires : goal.draft-first-requires
-draft-first-requires c =
-    let x = c.in-ok-plan.plan in
+pub draft_first-requires : goal.draft_first-requires
+draft_first-requires c =
+    let x = c.in_ok-plan.plan in
     let few = few_states (meant x) (within x) in
     let places = few_places (meant x) (within x) in
     (omega arith, omega arith)
 
-pub slice-bounds-put-lines-end : goal.slice-bounds-put-lines-end
-slice-bounds-put-lines-end c =
-    let x = c.in-ok-plan.plan in
+pub slice-bounds-put_lines-end : goal.slice-bounds-put_lines-end
+slice-bounds-put_lines-end c =
+    let x = c.in_ok-plan.plan in
     let few = few_states (meant x) (within x) in
-    let kept = c.draft-first.auto.rows in
+    let kept = c.draft_first.auto.rows in
     search rules
 
-pub put-lines-length-requires : goal.put-lines-length-requires
-put-lines-length-requires c =
-    let x = c.in-ok-plan.plan in
+pub put_lines-length-requires : goal.put_lines-length-requires
+put_lines-length-requires c =
+    let x = c.in_ok-plan.plan in
     let few = few_states (meant x) (within x) in
     let few_set = few_settings (meant x) (within x) in
-    let kept = c.draft-first.auto.rows in
-    let size = length-take-le (c.states.result - 0) c.draft-first.new.rows (omega arith) in
+    let kept = c.draft_first.auto.rows in
+    let size = length-take-le (c.states.result - 0) c.draft_first.new.rows (omega arith) in
     (omega arith, (omega arith, omega arith))
 
 pub returns : goal.returns
 returns c =
-    let x = c.in-ok-plan.plan in
+    let x = c.in_ok-plan.plan in
     let few = few_states (meant x) (within x) in
-    let kept = c.draft-first.auto.rows in
+    let kept = c.draft_first.auto.rows in
     record {
-      count = c.in-ok-count.count;
+      count = c.in_ok-count.count;
       answer = refl;
       plan = record {
         parts = parts_of x;
-        judged = c.in-ok-plan.ensures.judged;
-        admitted = c.in-ok-plan.ensures.admitted;
-        first_rows = c.in-ok-count.ensures;
+        judged = c.in_ok-plan.ensures.judged;
+        admitted = c.in_ok-plan.ensures.admitted;
+        first_rows = c.in_ok-count.ensures;
       };
-      text = lines_of (meant x) _ _ c.draft-first.new.rows _ (c.states.result - 0) c.settings.result (omega arith) c.settings.ensures (omega arith) c.put-lines-length.ensures;
+      text = lines_of (meant x) _ _ c.draft_first.new.rows _ (c.states.result - 0) c.settings.result (omega arith) c.settings.ensures (omega arith) c.put_lines-length.ensures;
     }

@@ -8,7 +8,7 @@ pub loop-init : goal.loop-init
 loop-init g c = λ L lasts s e.
     let w = lasts s e in
     let lt = (g.P.Plant.sound c.args.plant.now).safe_state s w.0 w.1.0 in
-    c.raise-all.ensures s (omega arith)
+    c.raise_all.ensures s (omega arith)
 
 pub loop-preserved : goal.loop-preserved
 loop-preserved g c = λ L lasts. c.sweep.ensures.keeps L lasts (c.loop.invariant L lasts)

@@ -12,7 +12,7 @@ returns g c =
     let m = g.P.Plant.meaning c.args.plant.now in
     let within = g.P.Plant.sound c.args.plant.now in
     let decides = stays_decides m within (held_in c.args.held.now) c.args.state c.args.setting in
-    let safe : m.safe c.args.state c.args.setting ≡ true = sym c.is-safe.ensures ∙ c.if-not-is-safe.false in
+    let safe : m.safe c.args.state c.args.setting ≡ true = sym c.is_safe.ensures ∙ c.if-not-is_safe.false in
     let value : true ≡ stays m (held_in c.args.held.now) c.args.state c.args.setting =
     sym (decides.1 (safe, λ t f. let lt = within.to_state _ _ t f in c.loop-t.invariant t (omega arith) f)) in
     record { value = value; in_words = Decides-at true _ value decides }
@@ -23,5 +23,5 @@ returns-then-follows g c =
     let within = g.P.Plant.sound c.args.plant.now in
     let decides = stays_decides m within (held_in c.args.held.now) c.args.state c.args.setting in
     let value : false ≡ stays m (held_in c.args.held.now) c.args.state c.args.setting =
-    sym (false_when_not _ decides (λ h. both_ways _ (sym c.if-not-is-up.ensures) (h.1 c.loop-t.t (sym c.if-follows.ensures)))) in
+    sym (false_when_not _ decides (λ h. both_ways _ (sym c.if-not-is_up.ensures) (h.1 c.loop-t.t (sym c.if-follows.ensures)))) in
     record { value = value; in_words = Decides-at false _ value decides }

@@ -8,19 +8,19 @@ use Rattle.archive.specs.declared.judging.Verdict.{Verdict}
 use Rattle.archive.proofs.Verdicts.{judged_whole, judged_ok, turned_away, not_drafted}
 use Rattle.archive.proofs.judging.verdict_in.Goals as goal
 
-pub returns-in-err-count : goal.returns-in-err-count
-returns-in-err-count g c =
+pub returns-in_err-count : goal.returns-in_err-count
+returns-in_err-count g c =
     let m = g.P.Plant.meaning c.args.plant.now in
     let within = g.P.Plant.sound c.args.plant.now in
     let file = c.args.rules.now in
     let log = c.args.log.now in
     let list = c.args.list.now in
     let list' = c.read_rules.new.list in
-    let f = c.in-err-count.field-0.0 in
-    let p = err_from_is_err_and c.from-residual.result c.from-residual.ensures.1 in
+    let f = c.in_err-count.field-0.0 in
+    let p = err_from_is_err_and c.from_residual.result c.from_residual.ensures.1 in
     let is = p.1 ∙ ap Err p.2 in
     let read : Read m.bits m.lines file list list' (Err f) =
-    subst (λ n. Read m.bits n file list list' (Err f)) c.lines.ensures (subst (λ b. Read b c.lines.result file list list' (Err f)) c.state-bits.ensures c.in-err-count.ensures) in
+    subst (λ n. Read m.bits n file list list' (Err f)) c.lines.ensures (subst (λ b. Read b c.lines.result file list list' (Err f)) c.state_bits.ensures c.in_err-count.ensures) in
     record {
       judged = subst (λ x. Judged m file log x) (sym is) (turned_away m within file log list list' c.requires f read);
       right = subst (λ x. RightByDraft m file log x) (sym is) (not_drafted m within file log list list' c.requires f read);
@@ -34,13 +34,13 @@ returns g c =
     let log = c.args.log.now in
     let list = c.args.list.now in
     let list' = c.read_rules.new.list in
-    let k = c.in-ok-count.count in
+    let k = c.in_ok-count.count in
     let read : Read m.bits m.lines file list list' (Ok k) =
-    subst (λ n. Read m.bits n file list list' (Ok k)) c.lines.ensures (subst (λ b. Read b c.lines.result file list list' (Ok k)) c.state-bits.ensures c.in-ok-count.ensures) in
-    let v : Verdict = record { outcome = c.run-log-outcome.result; phase = c.phase-phase.result } in
+    subst (λ n. Read m.bits n file list list' (Ok k)) c.lines.ensures (subst (λ b. Read b c.lines.result file list list' (Ok k)) c.state_bits.ensures c.in_ok-count.ensures) in
+    let v : Verdict = record { outcome = c.run_log-outcome.result; phase = c.phase-phase.result } in
     let exact : k - 0 ≡ k = omega arith in
-    let ran : Ran m (take (k - 0) list') Closed c.phase-phase.result log c.run-log-outcome.result =
-    subst (λ p. Ran m (take (k - 0) list') Closed p log c.run-log-outcome.result) (sym c.phase-phase.ensures)
-    (subst (λ p. Ran m (take (k - 0) list') p c.run-log-outcome.new.reader.phase log c.run-log-outcome.result) c.new-reader.ensures c.run-log-outcome.ensures) in
+    let ran : Ran m (take (k - 0) list') Closed c.phase-phase.result log c.run_log-outcome.result =
+    subst (λ p. Ran m (take (k - 0) list') Closed p log c.run_log-outcome.result) (sym c.phase-phase.ensures)
+    (subst (λ p. Ran m (take (k - 0) list') p c.run_log-outcome.new.reader.phase log c.run_log-outcome.result) c.new-reader.ensures c.run_log-outcome.ensures) in
     let judged = judged_whole m within file log list list' k (take (k - 0) list') v read.in_words (ap (λ i. take i list') exact) ran in
     record { judged = judged; right = judged_ok m within file log v judged }

@@ -6,13 +6,13 @@ use Rattle.rules.proofs.Listing.{prefixes_length}
 use Rattle.draft.specs.Writing.{Wrote}
 use Rattle.draft.proofs.Writing.{wrote_none, wrote_one, wrote_next}
 use Rattle.draft.proofs.listing.write_line.Goals as goal
-use Rattle.draft.proofs.listing.write_line.Goals.{in-Some, in-default}
+use Rattle.draft.proofs.listing.write_line.Goals.{in-Some, in_default}
 
 pub loop-prefix-init : goal.loop-prefix-init
 loop-prefix-init c = wrote_none c.args.rules.now c.args.at
 
-pub standing-rule-requires : goal.standing-rule-requires
-standing-rule-requires c =
+pub standing_rule-requires : goal.standing_rule-requires
+standing_rule-requires c =
     let low : c.args.line ≤ most_lines = omega arith in
     let few : 2 ^ c.args.line ≤ 2 ^ most_lines = pow_mono low in
     omega arith
@@ -45,14 +45,14 @@ loop-prefix-preserved c =
     let ends = c.loop-prefix.invariant.ends in
     let lt : m < length mid = omega arith in
     let within : m ≤ length before = omega arith in
-    elim c.match-standing-rule.branch [
+    elim c.match-standing_rule.branch [
       | in-Some w ↦
           let one : Wrote mid (set mid m w.in-Some.rule) m (m + 1) (f p) =
           subst (λ xs. Wrote mid (set mid m w.in-Some.rule) m (m + 1) xs) w.in-Some.ensures (wrote_one mid m w.in-Some.rule lt) in
           subst₂ (λ after end. Wrote before after at end (concat_below f (p + 1))) (sym w.rules-is) (sym w.end-is)
           (wrote_next before mid (set mid m w.in-Some.rule) at m (m + 1) f p within c.loop-prefix.invariant one)
-      | in-default w ↦
-          let none : Wrote mid mid m m (f p) = subst (λ xs. Wrote mid mid m m xs) w.in-default.ensures (wrote_none mid m) in
+      | in_default w ↦
+          let none : Wrote mid mid m m (f p) = subst (λ xs. Wrote mid mid m m xs) w.in_default.ensures (wrote_none mid m) in
           subst₂ (λ after end. Wrote before after at end (concat_below f (p + 1))) (sym w.rules-is) (sym w.end-is)
           (wrote_next before mid mid at m m f p within c.loop-prefix.invariant none)
     ]

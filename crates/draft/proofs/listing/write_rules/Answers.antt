@@ -14,8 +14,8 @@ room n rest s end all is few lt =
     let step = suc-mul s rest in
     omega arith
 
-pub write-state-end-requires : goal.write-state-end-requires
-write-state-end-requires g c =
+pub write_state-end-requires : goal.write_state-end-requires
+write_state-end-requires g c =
     let m = g.P.Plant.meaning c.args.plant.now in
     let within = g.P.Plant.sound c.args.plant.now in
     let n = c.lines-lines.result in
@@ -39,4 +39,4 @@ loop-s-preserved g c =
     let short = states_length n c.args.rows.now s in
     let fits = room n (2 ^ n - 1) s c.loop-s.end (states m) (omega arith) (omega arith) (omega arith) in
     let all : states m * (2 ^ n - 1) ≡ places_needed m = ap (λ k. states m * k) same_rest in
-    wrote_next _ _ _ _ _ _ (λ k. rules_of_state n (get_or c.args.rows.now k 0) k) s (omega arith) c.loop-s.invariant c.write-state-end.ensures
+    wrote_next _ _ _ _ _ _ (λ k. rules_of_state n (get_or c.args.rows.now k 0) k) s (omega arith) c.loop-s.invariant c.write_state-end.ensures

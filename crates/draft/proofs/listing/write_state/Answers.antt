@@ -7,8 +7,8 @@ use Rattle.draft.proofs.listing.write_state.Goals as goal
 pub loop-line-init : goal.loop-line-init
 loop-line-init c = wrote_none c.args.rules.now c.args.at
 
-pub write-line-end-requires : goal.write-line-end-requires
-write-line-end-requires c =
+pub write_line-end-requires : goal.write_line-end-requires
+write_line-end-requires c =
     let j = c.loop-line.line in
     let few = lines_length c.args.lines c.args.row c.args.state j in
     let ends = c.loop-line.invariant.ends in
@@ -23,4 +23,4 @@ loop-line-preserved c =
     let ends = c.loop-line.invariant.ends in
     let step = pow-suc 2 j in
     let more : 2 ^ suc j ≤ 2 ^ c.args.lines = pow_mono c.loop-line-test.true in
-    wrote_next _ _ _ _ _ _ (λ k. rules_of_line c.args.lines c.args.row c.args.state k) j (omega arith) c.loop-line.invariant c.write-line-end.ensures
+    wrote_next _ _ _ _ _ _ (λ k. rules_of_line c.args.lines c.args.row c.args.state k) j (omega arith) c.loop-line.invariant c.write_line-end.ensures

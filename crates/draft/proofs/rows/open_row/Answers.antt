@@ -6,10 +6,10 @@ use Rattle.plant.proofs.Sizes.{few_settings}
 use Rattle.sweep.specs.Greatest.{held_in}
 use Rattle.plant.specs.Staying.{stays}
 use Rattle.draft.proofs.rows.open_row.Goals as goal
-use Rattle.draft.proofs.rows.open_row.Goals.{then-pair-stays, else-pair-stays}
+use Rattle.draft.proofs.rows.open_row.Goals.{then-pair_stays, else-pair_stays}
 
-pub with-open-row-requires : goal.with-open-row-requires
-with-open-row-requires g c =
+pub with_open-row-requires : goal.with_open-row-requires
+with_open-row-requires g c =
     let m = g.P.Plant.meaning c.args.plant.now in
     let p : ℕ → Bool = stays m (held_in c.args.held.now) c.args.state in
     let a = c.loop-a.a in
@@ -26,12 +26,12 @@ loop-a-preserved g c =
     let p : ℕ → Bool = stays m (held_in c.args.held.now) c.args.state in
     let a = c.loop-a.a in
     let was : c.loop-a.row ≡ pack p a = c.loop-a.invariant in
-    let test = c.pair-stays.ensures.value in
-    elim c.if-pair-stays.branch [
-      | then-pair-stays w ↦
-          w.row-is ∙ w.with-open-row.ensures ∙ ap (λ x. 2 ^ a + x) was ∙ sym (packed_more p a true (sym test ∙ w.if-pair-stays.true))
-      | else-pair-stays w ↦
-          w.row-is ∙ was ∙ sym (zero-add (pack p a)) ∙ sym (packed_more p a false (sym test ∙ w.if-pair-stays.false))
+    let test = c.pair_stays.ensures.value in
+    elim c.if-pair_stays.branch [
+      | then-pair_stays w ↦
+          w.row-is ∙ w.with_open-row.ensures ∙ ap (λ x. 2 ^ a + x) was ∙ sym (packed_more p a true (sym test ∙ w.if-pair_stays.true))
+      | else-pair_stays w ↦
+          w.row-is ∙ was ∙ sym (zero-add (pack p a)) ∙ sym (packed_more p a false (sym test ∙ w.if-pair_stays.false))
     ]
 
 pub returns : goal.returns

@@ -11,7 +11,7 @@ loop-s-preserved g c =
     let f = row_from m c.args.held.now in
     let rows = c.loop-s.rows in
     let s = c.loop-s.s in
-    subst (λ x. (k : ℕ) → k < s + 1 → get_or (set rows s x) k 0 ≡ f k) (sym c.row-of.ensures)
+    subst (λ x. (k : ℕ) → k < s + 1 → get_or (set rows s x) k 0 ≡ f k) (sym c.row_of.ensures)
     (fill_by_more f rows s 0 (omega arith) c.loop-s.invariant)
 
 pub returns : goal.returns

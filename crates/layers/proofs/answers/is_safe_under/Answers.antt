@@ -2,12 +2,12 @@ use Rattle.std.proofs.Common.{◌≡◌, ◌^◌, ◌<◌, ◌≤◌, true, sym,
 use Rattle.plant.specs.Meaning.{Meaning, most_bits, most_lines}
 use Rattle.layers.proofs.answers.is_safe_under.Goals as goal
 
-pub is-banned-requires : goal.is-banned-requires
-is-banned-requires g c =
+pub is_banned-requires : goal.is_banned-requires
+is_banned-requires g c =
     let m : Meaning = g.P.Plant.meaning c.args.below.now in
     let w = g.P.Plant.sound c.args.below.now in
-    let safe : m.safe c.args.state c.args.setting ≡ true = sym c.if-not-is-safe.ensures in
-    let bits = sym c.state-bits-state-bits.ensures in
+    let safe : m.safe c.args.state c.args.setting ≡ true = sym c.if-not-is_safe.ensures in
+    let bits = sym c.state_bits-state_bits.ensures in
     let lines = sym c.lines-lines.ensures in (
       subst (λ k. k ≤ most_bits) bits w.few-bits,
       (

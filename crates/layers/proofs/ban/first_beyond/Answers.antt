@@ -12,7 +12,7 @@ nothing = record { ones = 0; zeros = 0 }
 
 pub returns-then-not-fits : goal.returns-then-not-fits
 returns-then-not-fits c =
-    let fits : Condition → mathlib.Core.Bool.Bool = ban_fits c.args.state-bits c.args.lines in
+    let fits : Condition → mathlib.Core.Bool.Bool = ban_fits c.args.state_bits c.args.lines in
     record {
       inside = c.loop-i-test.true;
       beyond = λ d. misfit_beyond _ _ _ (ap fits (get_or_default c.args.bans.now c.loop-i.i d nothing c.loop-i-test.true) ∙ sym c.if-not-fits.ensures);
@@ -21,12 +21,12 @@ returns-then-not-fits c =
 
 pub loop-i-preserved : goal.loop-i-preserved
 loop-i-preserved c =
-    let fits : Condition → mathlib.Core.Bool.Bool = ban_fits c.args.state-bits c.args.lines in
+    let fits : Condition → mathlib.Core.Bool.Bool = ban_fits c.args.state_bits c.args.lines in
     λ k d.
     below_more _ _ (λ j lt. c.loop-i.invariant j d lt)
     (ap fits (get_or_default c.args.bans.now c.loop-i.i d nothing c.loop-i-test.true) ∙ sym c.if-not-fits.ensures) k
 
 pub returns : goal.returns
 returns c =
-    all_within c.args.state-bits c.args.lines c.args.bans.now
-    (all_from_places (ban_fits c.args.state-bits c.args.lines) c.args.bans.now (λ k d lt. c.loop-i.invariant k d (omega arith)))
+    all_within c.args.state_bits c.args.lines c.args.bans.now
+    (all_from_places (ban_fits c.args.state_bits c.args.lines) c.args.bans.now (λ k d lt. c.loop-i.invariant k d (omega arith)))

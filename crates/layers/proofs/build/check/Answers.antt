@@ -10,7 +10,7 @@ returns g c =
     let bans = c.args.bans.now in
     record {
       few = search rules;
-      within = subst (λ b. AllWithin b m.lines bans) c.state-bits.ensures (subst (λ n. AllWithin c.state-bits.result n bans) c.lines.ensures c.in-default.ensures);
+      within = subst (λ b. AllWithin b m.lines bans) c.state_bits.ensures (subst (λ n. AllWithin c.state_bits.result n bans) c.lines.ensures c.in_default.ensures);
       words = banned_words m (g.P.Plant.sound c.args.below.now) bans;
       over_bans = over_bans m bans;
     }

@@ -6,6 +6,6 @@ use Rattle.log_file.proofs.entry.describe_entry.Goals as goal
 pub returns : goal.returns
 returns c =
     record {
-      computed = c.find-entry.ensures;
-      in_words = subst (λ r. EntryInWords c.args.bytes.now c.args.offset r) (sym c.find-entry.ensures) (entry_words c.args.bytes.now c.args.offset);
+      computed = c.find_entry.ensures;
+      in_words = subst (λ r. EntryInWords c.args.bytes.now c.args.offset r) (sym c.find_entry.ensures) (entry_words c.args.bytes.now c.args.offset);
     }

@@ -8,15 +8,15 @@ use Rattle.plan.proofs.extension.all_true.Goals as goal
 abbrev nothing : Clause
 nothing = record { letter = 0; value = false; condition = record { ones = 0; zeros = 0 } }
 
-pub returns-then-not-is-true : goal.returns-then-not-is-true
-returns-then-not-is-true c =
+pub returns-then-not-is_true : goal.returns-then-not-is_true
+returns-then-not-is_true c =
     all_broken (clause_true c.args.word) c.args.clauses.now c.loop-clause.clause-index nothing c.loop-clause.invariant c.loop-clause-test.true
-    (sym c.if-not-is-true.ensures)
+    (sym c.if-not-is_true.ensures)
 
 pub loop-clause-preserved : goal.loop-clause-preserved
 loop-clause-preserved c =
     all_next (clause_true c.args.word) c.args.clauses.now c.loop-clause.clause-index nothing c.loop-clause.invariant c.loop-clause-test.true
-    (sym c.if-not-is-true.ensures)
+    (sym c.if-not-is_true.ensures)
 
 pub returns : goal.returns
 returns c =

@@ -32,10 +32,10 @@ loop-clause-preserved c =
     let moved : ◌≡◌ {A = ℕ × ℕ} (c.if-holds.ones, c.if-holds.zeros) (stepped w x masks) =
     elim c.if-holds.branch [
       | then-holds+then-clause v ↦
-          ap₂ {C = ℕ × ℕ} (λ p q. (p, q)) (v.ones-is ∙ ap (bit_or c.loop-clause.ones) v.letter-mask-ones.ensures) v.zeros-is ∙
+          ap₂ {C = ℕ × ℕ} (λ p q. (p, q)) (v.ones-is ∙ ap (bit_or c.loop-clause.ones) v.letter_mask-ones.ensures) v.zeros-is ∙
           at_true w x masks true (sym c.holds.ensures ∙ v.if-holds.true) v.if-clause.true
       | then-holds+else-clause v ↦
-          ap₂ {C = ℕ × ℕ} (λ p q. (p, q)) v.ones-is (v.zeros-is ∙ ap (bit_or c.loop-clause.zeros) v.letter-mask-zeros.ensures) ∙
+          ap₂ {C = ℕ × ℕ} (λ p q. (p, q)) v.ones-is (v.zeros-is ∙ ap (bit_or c.loop-clause.zeros) v.letter_mask-zeros.ensures) ∙
           at_true w x masks false (sym c.holds.ensures ∙ v.if-holds.true) v.if-clause.false
       | else-holds v ↦ ap₂ {C = ℕ × ℕ} (λ p q. (p, q)) v.ones-is v.zeros-is ∙ at_false w x masks (sym c.holds.ensures ∙ v.if-holds.false)
     ] in

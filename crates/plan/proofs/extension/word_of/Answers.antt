@@ -7,7 +7,7 @@ use Rattle.plan.proofs.extension.word_of.Goals as goal
 
 pub returns : goal.returns
 returns c =
-    let b = c.args.state-bits in
+    let b = c.args.state_bits in
     let n = c.args.lines in
     let s = c.args.state in
     let a = c.args.setting in

@@ -5,7 +5,7 @@ use Rattle.plant.specs.Bits.{bit}
 use Rattle.plan.specs.Loops.{gathered}
 use Rattle.plan.specs.declared.clause.Clause.{Clause}
 use Rattle.plan.proofs.loops.gather.Goals as goal
-use Rattle.plan.proofs.loops.gather.Goals.{then-has-bit, else-has-bit}
+use Rattle.plan.proofs.loops.gather.Goals.{then-has_bit, else-has_bit}
 
 -- what a read past the end of the clauses would give
 abbrev nothing : Clause
@@ -19,11 +19,11 @@ loop-clause-preserved c =
     let x = get_or cs i nothing in
     let all = c.loop-clause.all in
     let more : ℕ = bit_or all (bit_or x.condition.ones x.condition.zeros) in
-    let test : bit roots x.letter ≡ c.has-bit.result = sym c.has-bit.ensures in
-    let moved : c.if-has-bit.all ≡ cond (bit roots x.letter) more all =
-    elim c.if-has-bit.branch [
-      | then-has-bit v ↦ v.all-is ∙ sym (ap (λ (b : Bool). cond b more all) (test ∙ v.if-has-bit.true))
-      | else-has-bit v ↦ v.all-is ∙ sym (ap (λ (b : Bool). cond b more all) (test ∙ v.if-has-bit.false))
+    let test : bit roots x.letter ≡ c.has_bit.result = sym c.has_bit.ensures in
+    let moved : c.if-has_bit.all ≡ cond (bit roots x.letter) more all =
+    elim c.if-has_bit.branch [
+      | then-has_bit v ↦ v.all-is ∙ sym (ap (λ (b : Bool). cond b more all) (test ∙ v.if-has_bit.true))
+      | else-has_bit v ↦ v.all-is ∙ sym (ap (λ (b : Bool). cond b more all) (test ∙ v.if-has_bit.false))
     ] in
     ap (gathered (drop (i + 1) cs) roots) moved ∙ sym (at_drop_more (λ (ys : List Clause). gathered ys roots all) cs i nothing c.loop-clause-test.true) ∙
     c.loop-clause.invariant

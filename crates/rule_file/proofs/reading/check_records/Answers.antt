@@ -13,41 +13,41 @@ use Rattle.rule_file.proofs.reading.check_records.Goals as goal
 pub loop-found-init : goal.loop-found-init
 loop-found-init c = ([], length c.args.bytes.now, omega arith, refl, refl, refl)
 
-pub returns-in-err-found : goal.returns-in-err-found
-returns-in-err-found c =
+pub returns-in_err-found : goal.returns-in_err-found
+returns-in_err-found c =
     let inv = c.loop-found.invariant in
-    let p = err_from_is_err_and c.from-residual.result c.from-residual.ensures.1 in
-    let fault = at_fault c.args.sizes.state_bits c.args.sizes.lines c.args.room c.args.bytes.now inv.1 inv.0 c.loop-found.at inv.2 c.in-err-found.field-0.0 (sym c.in-err-found.ensures) in
+    let p = err_from_is_err_and c.from_residual.result c.from_residual.ensures.1 in
+    let fault = at_fault c.args.sizes.state_bits c.args.sizes.lines c.args.room c.args.bytes.now inv.1 inv.0 c.loop-found.at inv.2 c.in_err-found.field-0.0 (sym c.in_err-found.ensures) in
     p.1 ∙ ap Err p.2 ∙ ap counted (sym fault ∙ inv.5)
 
-pub returns-in-err-ends-at : goal.returns-in-err-ends-at
-returns-in-err-ends-at c =
+pub returns-in_err-ends_at : goal.returns-in_err-ends_at
+returns-in_err-ends_at c =
     let bytes = c.args.bytes.now in
     let inv = c.loop-found.invariant in
-    let r = c.in-ok-found.found in
-    let p = err_from_is_err_and c.from-residual-in-err-ends-at.result c.from-residual-in-err-ends-at.ensures.1 in
-    let e = ended_err bytes r.end c.in-err-ends-at.field-0.0 c.in-err-ends-at.ensures in
-    let fault = at_more_bytes c.args.sizes.state_bits c.args.sizes.lines c.args.room bytes inv.1 inv.0 c.loop-found.at inv.2 r (sym c.in-ok-found.ensures) c.if-found-eq-END.true e.0 in
+    let r = c.in_ok-found.found in
+    let p = err_from_is_err_and c.from_residual-in_err-ends_at.result c.from_residual-in_err-ends_at.ensures.1 in
+    let e = ended_err bytes r.end c.in_err-ends_at.field-0.0 c.in_err-ends_at.ensures in
+    let fault = at_more_bytes c.args.sizes.state_bits c.args.sizes.lines c.args.room bytes inv.1 inv.0 c.loop-found.at inv.2 r (sym c.in_ok-found.ensures) c.if-found-eq-END.true e.0 in
     p.1 ∙ ap Err (p.2 ∙ ap Bytes e.1) ∙ ap counted (sym fault ∙ inv.5)
 
 pub returns-then-found-eq-END : goal.returns-then-found-eq-END
 returns-then-found-eq-END c =
     let bytes = c.args.bytes.now in
     let inv = c.loop-found.invariant in
-    let r = c.in-ok-found.found in
-    let le = ended_ok bytes r.end c.in-ok-ends-at.ensures in
-    let end = at_end c.args.sizes.state_bits c.args.sizes.lines c.args.room bytes inv.1 inv.0 c.loop-found.at inv.2 r (sym c.in-ok-found.ensures) c.if-found-eq-END.true le in
+    let r = c.in_ok-found.found in
+    let le = ended_ok bytes r.end c.in_ok-ends_at.ensures in
+    let end = at_end c.args.sizes.state_bits c.args.sizes.lines c.args.room bytes inv.1 inv.0 c.loop-found.at inv.2 r (sym c.in_ok-found.ensures) c.if-found-eq-END.true le in
     ap Ok inv.4 ∙ ap counted (sym end ∙ inv.5)
 
-pub returns-then-not-stands-next : goal.returns-then-not-stands-next
-returns-then-not-stands-next c =
+pub returns-then-not-stands_next : goal.returns-then-not-stands_next
+returns-then-not-stands_next c =
     let b = c.args.sizes.state_bits in
     let n = c.args.sizes.lines in
     let bytes = c.args.bytes.now in
     let at = c.loop-found.at in
     let inv = c.loop-found.invariant in
-    let no_place = ap (λ o. stands_next b n o bytes at) (sym inv.3) ∙ sym c.if-not-stands-next.ensures in
-    let fault = at_misplaced b n c.args.room bytes inv.1 inv.0 at inv.2 c.in-ok-found.found (sym c.in-ok-found.ensures) c.if-found-eq-END.false no_place in
+    let no_place = ap (λ o. stands_next b n o bytes at) (sym inv.3) ∙ sym c.if-not-stands_next.ensures in
+    let fault = at_misplaced b n c.args.room bytes inv.1 inv.0 at inv.2 c.in_ok-found.found (sym c.in_ok-found.ensures) c.if-found-eq-END.false no_place in
     ap counted (sym fault ∙ inv.5)
 
 pub returns-then-count-room : goal.returns-then-count-room
@@ -58,9 +58,9 @@ returns-then-count-room c =
     let at = c.loop-found.at in
     let inv = c.loop-found.invariant in
     let is = inv.4 in
-    let stands = ap (λ o. stands_next b n o bytes at) (sym inv.3) ∙ sym c.if-not-stands-next.ensures in
+    let stands = ap (λ o. stands_next b n o bytes at) (sym inv.3) ∙ sym c.if-not-stands_next.ensures in
     let full : c.args.room ≤ length inv.0 = omega arith in
-    let fault = at_full b n c.args.room bytes inv.1 inv.0 at inv.2 c.in-ok-found.found (sym c.in-ok-found.ensures) c.if-found-eq-END.false stands full in
+    let fault = at_full b n c.args.room bytes inv.1 inv.0 at inv.2 c.in_ok-found.found (sym c.in_ok-found.ensures) c.if-found-eq-END.false stands full in
     ap counted (sym fault ∙ inv.5)
 
 pub loop-found-preserved : goal.loop-found-preserved
@@ -74,12 +74,12 @@ loop-found-preserved c =
     let f = inv.1 in
     let left = inv.2 in
     let is = inv.4 in
-    let r = c.in-ok-found.found in
-    let found = other_found bytes at r (sym c.in-ok-found.ensures) c.if-found-eq-END.false in
+    let r = c.in_ok-found.found in
+    let found = other_found bytes at r (sym c.in_ok-found.ensures) c.if-found-eq-END.false in
     let end = found.1 in
-    let stands = ap (λ o. stands_next b n o bytes at) (sym inv.3) ∙ sym c.if-not-stands-next.ensures in
+    let stands = ap (λ o. stands_next b n o bytes at) (sym inv.3) ∙ sym c.if-not-stands_next.ensures in
     let fits : length rs < c.args.room = omega arith in
-    let more = at_rule b n c.args.room bytes f rs at left r (sym c.in-ok-found.ensures) c.if-found-eq-END.false stands fits in
+    let more = at_rule b n c.args.room bytes f rs at left r (sym c.in_ok-found.ensures) c.if-found-eq-END.false stands fits in
     let size = length_push rs (rule_at bytes at) in (
       rs ++ (rule_at bytes at ∷ []),
       pred f,

@@ -7,21 +7,21 @@ use Rattle.rule_file.specs.declared.fault.RuleFileFault.{RuleFileFault}
 use Rattle.rule_file.proofs.Outcomes.{read_refused, read_counted}
 use Rattle.rule_file.proofs.reading.read_into.Goals as goal
 
-pub returns-in-err-count : goal.returns-in-err-count
-returns-in-err-count c =
+pub returns-in_err-count : goal.returns-in_err-count
+returns-in_err-count c =
     let b = c.args.sizes.state_bits in
     let n = c.args.sizes.lines in
     let bytes = c.args.bytes.now in
     let list = c.args.list.now in
-    let p = err_from_is_err_and c.from-residual.result c.from-residual.ensures.1 in
-    let fit = sym c.if-not-sizes-fit.ensures in
-    subst (λ x. Read b n bytes list list x) (sym (p.1 ∙ ap Err p.2)) (read_refused b n bytes list fit c.in-err-count.field-0.0 c.in-err-count.ensures)
+    let p = err_from_is_err_and c.from_residual.result c.from_residual.ensures.1 in
+    let fit = sym c.if-not-sizes_fit.ensures in
+    subst (λ x. Read b n bytes list list x) (sym (p.1 ∙ ap Err p.2)) (read_refused b n bytes list fit c.in_err-count.field-0.0 c.in_err-count.ensures)
 
 pub fill-requires : goal.fill-requires
 fill-requires c =
     let b = c.args.sizes.state_bits in
     let n = c.args.sizes.lines in
-    let w = read_counted b n c.args.bytes.now c.args.list.now (sym c.if-not-sizes-fit.ensures) c.in-ok-count.count c.in-ok-count.ensures in
+    let w = read_counted b n c.args.bytes.now c.args.list.now (sym c.if-not-sizes_fit.ensures) c.in_ok-count.count c.in_ok-count.ensures in
     (w.few-bytes, w.few)
 
 pub returns : goal.returns
@@ -30,5 +30,5 @@ returns c =
     let n = c.args.sizes.lines in
     let bytes = c.args.bytes.now in
     let list = c.args.list.now in
-    let w = read_counted b n bytes list (sym c.if-not-sizes-fit.ensures) c.in-ok-count.count c.in-ok-count.ensures in
-    subst (λ xs. Read b n bytes list xs (Ok c.in-ok-count.count)) (sym c.fill.ensures) w.fills
+    let w = read_counted b n bytes list (sym c.if-not-sizes_fit.ensures) c.in_ok-count.count c.in_ok-count.ensures in
+    subst (λ xs. Read b n bytes list xs (Ok c.in_ok-count.count)) (sym c.fill.ensures) w.fills

@@ -14,6 +14,6 @@ returns c =
     let file = c.args.file.now in
     let r = c.args.rule.now in
     let len : at + 5 - at ≡ 5 = omega arith in
-    ap (λ xs. take at file ++ (xs ++ drop (at + 5 - at) (drop at file))) (c.copy-from-slice.ensures.after ∙ ap (λ k. rule_code ∷ (r.state ∷ (r.line ∷ (r.prefix ∷ (k ∷ []))))) (c.from.ensures ∙ value_byte r.value)) ∙
+    ap (λ xs. take at file ++ (xs ++ drop (at + 5 - at) (drop at file))) (c.copy_from_slice.ensures.after ∙ ap (λ k. rule_code ∷ (r.state ∷ (r.line ∷ (r.prefix ∷ (k ∷ []))))) (c.from.ensures ∙ value_byte r.value)) ∙
     ap (λ k. take at file ++ (rule_bytes r ++ drop k (drop at file))) len ∙
     ap (λ xs. take at file ++ (rule_bytes r ++ xs)) (drop-drop 5 at file)

@@ -6,8 +6,8 @@ use Rattle.sheet_call.specs.Page.{state_line}
 use Rattle.sheet_call.proofs.Lengths.{lines_length, line_room}
 use Rattle.sheet_call.proofs.page.put_lines.Goals as goal
 
-pub put-line-end-requires : goal.put-line-end-requires
-put-line-end-requires c =
+pub put_line-end-requires : goal.put_line-end-requires
+put_line-end-requires c =
     let s = c.loop-state.state in
     let settings = c.args.settings in
     let ends = c.loop-state.invariant.ends in
@@ -23,4 +23,4 @@ loop-state-preserved c =
     let ends = c.loop-state.invariant.ends in
     let short = lines_length settings (open_in rows) s (omega arith) in
     let room = line_room settings s c.loop-state.end (omega arith) (omega arith) (omega arith) in
-    wrote_next _ _ _ _ _ _ (λ k. state_line settings k (open_in rows k)) s (omega arith) c.loop-state.invariant c.put-line-end.ensures
+    wrote_next _ _ _ _ _ _ (λ k. state_line settings k (open_in rows k)) s (omega arith) c.loop-state.invariant c.put_line-end.ensures

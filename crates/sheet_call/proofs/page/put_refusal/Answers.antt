@@ -21,43 +21,43 @@ short_word Draft = omega arith
 short_word Rules = omega arith
 short_word Log = omega arith
 
-pub put-spaced-number-requires : goal.put-spaced-number-requires
-put-spaced-number-requires c =
+pub put_spaced-number-requires : goal.put_spaced-number-requires
+put_spaced-number-requires c =
     let l = length-append (decimal c.args.refusal.number) (codes " ") in
     let n = short c.args.refusal.number (omega arith) in
-    let e = c.put-bytes-word.ensures.ends in
+    let e = c.put_bytes-word.ensures.ends in
     omega arith
 
-pub put-spaced-place-requires : goal.put-spaced-place-requires
-put-spaced-place-requires c =
+pub put_spaced-place-requires : goal.put_spaced-place-requires
+put_spaced-place-requires c =
     let l = length-append (decimal c.args.refusal.place) (codes " ") in
     let n = short c.args.refusal.number (omega arith) in
     let p = short c.args.refusal.place (omega arith) in
-    let e = c.put-bytes-word.ensures.ends in
-    let f = c.put-spaced-number.ensures.ends in
+    let e = c.put_bytes-word.ensures.ends in
+    let f = c.put_spaced-number.ensures.ends in
     omega arith
 
-pub put-bytes-layer-requires : goal.put-bytes-layer-requires
-put-bytes-layer-requires c =
+pub put_bytes-layer-requires : goal.put_bytes-layer-requires
+put_bytes-layer-requires c =
     let n = short c.args.refusal.number (omega arith) in
     let p = short c.args.refusal.place (omega arith) in
-    let e = c.put-bytes-word.ensures.ends in
-    let f = c.put-spaced-number.ensures.ends in
-    let g = c.put-spaced-place.ensures.ends in
+    let e = c.put_bytes-word.ensures.ends in
+    let f = c.put_spaced-number.ensures.ends in
+    let g = c.put_spaced-place.ensures.ends in
     let w = short_word c.args.refusal.layer in
-    let s = ap length (c.as-bytes.ensures.value ∙ c.word.ensures) in
+    let s = ap length (c.as_bytes.ensures.value ∙ c.word.ensures) in
     omega arith
 
-pub put-byte-requires : goal.put-byte-requires
-put-byte-requires c =
+pub put_byte-requires : goal.put_byte-requires
+put_byte-requires c =
     let n = short c.args.refusal.number (omega arith) in
     let p = short c.args.refusal.place (omega arith) in
-    let e = c.put-bytes-word.ensures.ends in
-    let f = c.put-spaced-number.ensures.ends in
-    let g = c.put-spaced-place.ensures.ends in
-    let h = c.put-bytes-layer.ensures.ends in
+    let e = c.put_bytes-word.ensures.ends in
+    let f = c.put_spaced-number.ensures.ends in
+    let g = c.put_spaced-place.ensures.ends in
+    let h = c.put_bytes-layer.ensures.ends in
     let w = short_word c.args.refusal.layer in
-    let s = ap length (c.as-bytes.ensures.value ∙ c.word.ensures) in
+    let s = ap length (c.as_bytes.ensures.value ∙ c.word.ensures) in
     omega arith
 
 grouped : (a n s p w e : List ℕ) → a ++ ((n ++ s) ++ ((p ++ s) ++ (w ++ e))) ≡ (a ++ (n ++ (s ++ (p ++ (s ++ w))))) ++ e
@@ -67,18 +67,18 @@ pub returns : goal.returns
 returns c =
     let n = short c.args.refusal.number (omega arith) in
     let p = short c.args.refusal.place (omega arith) in
-    let e = c.put-bytes-word.ensures.ends in
-    let f = c.put-spaced-number.ensures.ends in
-    let g = c.put-spaced-place.ensures.ends in
-    let h = c.put-bytes-layer.ensures.ends in
+    let e = c.put_bytes-word.ensures.ends in
+    let f = c.put_spaced-number.ensures.ends in
+    let g = c.put_spaced-place.ensures.ends in
+    let h = c.put_bytes-layer.ensures.ends in
     let w = short_word c.args.refusal.layer in
-    let word = c.as-bytes.ensures.value ∙ c.word.ensures in
+    let word = c.as_bytes.ensures.value ∙ c.word.ensures in
     let s = ap length word in
     let number = decimal c.args.refusal.number in
     let place = decimal c.args.refusal.place in
-    subst (λ xs. Wrote c.args.text.now c.put-byte.new.text 0 c.put-byte.result xs)
+    subst (λ xs. Wrote c.args.text.now c.put_byte.new.text 0 c.put_byte.result xs)
     (ap (λ x. codes "refused " ++ ((number ++ codes " ") ++ ((place ++ codes " ") ++ (x ++ line_end)))) word ∙ grouped (codes "refused ") number (codes " ") place (layer_word c.args.refusal.layer) line_end)
-    (wrote_more _ _ _ _ _ _ _ _ (omega arith) c.put-bytes-word.ensures
-    (wrote_more _ _ _ _ _ _ _ _ (omega arith) c.put-spaced-number.ensures
-    (wrote_more _ _ _ _ _ _ _ _ (omega arith) c.put-spaced-place.ensures
-    (wrote_more _ _ _ _ _ _ _ _ (omega arith) c.put-bytes-layer.ensures c.put-byte.ensures))))
+    (wrote_more _ _ _ _ _ _ _ _ (omega arith) c.put_bytes-word.ensures
+    (wrote_more _ _ _ _ _ _ _ _ (omega arith) c.put_spaced-number.ensures
+    (wrote_more _ _ _ _ _ _ _ _ (omega arith) c.put_spaced-place.ensures
+    (wrote_more _ _ _ _ _ _ _ _ (omega arith) c.put_bytes-layer.ensures c.put_byte.ensures))))

@@ -14,8 +14,8 @@ loop-byte-preserved c =
     let lt : i < length bytes = omega arith in
     let size = length-take-le i bytes (omega arith) in
     let ends = c.loop-byte.invariant.ends in
-    subst (λ xs. Wrote c.args.text.now c.put-byte-end.new.text c.args.at c.put-byte-end.result xs) (sym (take_more bytes i 0 lt))
-    (wrote_more _ _ _ _ _ _ _ _ (omega arith) c.loop-byte.invariant c.put-byte-end.ensures)
+    subst (λ xs. Wrote c.args.text.now c.put_byte-end.new.text c.args.at c.put_byte-end.result xs) (sym (take_more bytes i 0 lt))
+    (wrote_more _ _ _ _ _ _ _ _ (omega arith) c.loop-byte.invariant c.put_byte-end.ensures)
 
 pub returns : goal.returns
 returns c =

@@ -4,12 +4,12 @@ use Rattle.plan.specs.Held.{parts_of}
 use Rattle.plan.specs.Machine.{banned, extension}
 use Rattle.plan.proofs.plan.Plan.never_banned.Goals as goal
 
-pub returns-then-is-banned : goal.returns-then-is-banned
-returns-then-is-banned c =
+pub returns-then-is_banned : goal.returns-then-is_banned
+returns-then-is_banned c =
     let p = parts_of c.args.self.now in
     let w : ℕ → ℕ = extension p c.args.state c.args.setting in
     let x = c.loop-x.x in
-    let here : banned p (w x) ≡ true = ap (banned p) (sym c.extended.ensures) ∙ sym c.if-is-banned.ensures in
+    let here : banned p (w x) ≡ true = ap (banned p) (sym c.extended.ensures) ∙ sym c.if-is_banned.ensures in
     sym (all_from_one (λ k. not (banned p (w k))) (2 ^ p.auxiliaries) x (omega arith) (ap not here))
 
 pub returns : goal.returns
