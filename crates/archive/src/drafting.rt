@@ -20,7 +20,7 @@ fn draft_in<P: Plant>(
     file: &mut [u8],
 ) -> Result<usize, DraftFileFault>
     requires { (length rows.old ≡ 2 ^ most_bits) × (length list.old ≡ most_rules) }
-    ensures outcome { DraftedFile (meaning plant.now) file.old file.new result }
+    ensures outcome { DraftedFile (P.meaning plant.now) file.old file.new result }
     ensures within { IfOk result (λ k. k ≤ length file.new) }
 {
     let states = plant.states() as usize;
@@ -31,7 +31,7 @@ fn draft_in<P: Plant>(
 // Drafts any plant, and writes its rule file to the first bytes lent. The file's length. It allocates nothing.
 // Where there is none, the bytes are as they were.
 pub fn draft_file_by<P: Plant>(plant: &P, file: &mut [u8]) -> Result<usize, DraftFileFault>
-    ensures outcome { DraftedFile (meaning plant.now) file.old file.new result }
+    ensures outcome { DraftedFile (P.meaning plant.now) file.old file.new result }
     ensures within { IfOk result (λ k. k ≤ length file.new) }
 {
     let mut rows: [Row; MAX_STATES] = [0; MAX_STATES];

@@ -41,8 +41,8 @@ fn verdict_in<P: Plant>(
     log: &[u8],
 ) -> Result<Verdict, RuleFileFault>
     requires { length list.old ≡ most_rules }
-    ensures judged { Judged (meaning plant.now) rules.now log.now result }
-    ensures right { RightByDraft (meaning plant.now) rules.now log.now result }
+    ensures judged { Judged (P.meaning plant.now) rules.now log.now result }
+    ensures right { RightByDraft (P.meaning plant.now) rules.now log.now result }
 {
     let count = read_rules(plant.state_bits(), plant.lines(), rules, list)?;
     let mut reader = Reader::new();
@@ -53,8 +53,8 @@ fn verdict_in<P: Plant>(
 
 // The verdict on a log by a rule file, for any plant. It allocates nothing.
 pub fn verdict_by<P: Plant>(plant: &P, rules: &[u8], log: &[u8]) -> Result<Verdict, RuleFileFault>
-    ensures judged { Judged (meaning plant.now) rules.now log.now result }
-    ensures right { RightByDraft (meaning plant.now) rules.now log.now result }
+    ensures judged { Judged (P.meaning plant.now) rules.now log.now result }
+    ensures right { RightByDraft (P.meaning plant.now) rules.now log.now result }
 {
     let mut list = [Rule::default(); MAX_RULES];
     verdict_in(plant, &mut list, rules, log)

@@ -64,7 +64,7 @@ impl EntryTest<Move> for Goes {
 
 // Whether some entry passes the test.
 fn some_entry<E, T: EntryTest<E>>(entries: &[E], test: &T) -> bool
-    ensures { result ≡ some_of (passing test.now) entries.now }
+    ensures { result ≡ some_of (T.passing test.now) entries.now }
 {
     for entry in entries {
         if test.passes(entry) {

@@ -38,7 +38,7 @@ impl Entry for Move {
 
 // The index of the first entry that does not fit.
 pub(crate) fn first_misfit<E: Entry>(entries: &[E], states: u32, settings: u32) -> Option<usize>
-    ensures { MatchOption result (all_of (within states settings) entries.now ≡ true) (λ i. FirstMisfit (within states settings) entries.now i) }
+    ensures { MatchOption result (all_of (E.within states settings) entries.now ≡ true) (λ i. FirstMisfit (E.within states settings) entries.now i) }
 {
     for (i, entry) in entries.iter().enumerate() {
         if !entry.fits(states, settings) {

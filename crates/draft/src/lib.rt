@@ -19,7 +19,7 @@ use rules::Rule;
 
 // Whether the memory lent has the right lengths: a row for each state, and places for the rules that there may be.
 fn check_room<P: Plant>(plant: &P, rows: usize, rules: usize) -> Result<(), DraftFault>
-    ensures { Room (meaning plant.now) rows rules result }
+    ensures { Room (P.meaning plant.now) rows rules result }
 {
     let states = plant.states() as usize;
     if rows != states {
@@ -38,8 +38,8 @@ fn draft_in_room<P: Plant>(
     rows: &mut [Row],
     rules: &mut [Rule],
 ) -> Result<usize, DraftFault>
-    requires { (length rows.old ≡ states (meaning plant.now)) × (places_needed (meaning plant.now) ≤ length rules.old) }
-    ensures { Answered (meaning plant.now) rows.new rules.old rules.new result }
+    requires { (length rows.old ≡ states (P.meaning plant.now)) × (places_needed (P.meaning plant.now) ≤ length rules.old) }
+    ensures { Answered (P.meaning plant.now) rows.new rules.old rules.new result }
 {
     fill_rows(plant, rows);
     if let Some(state) = lost_start(plant, rows) {
@@ -51,7 +51,7 @@ fn draft_in_room<P: Plant>(
 // Fills the rows with the largest safe assignment and, where every start lasts, writes its rules
 // by state, line and prefix. The number of rules.
 pub fn draft<P: Plant>(plant: &P, rows: &mut [Row], rules: &mut [Rule]) -> Result<usize, DraftFault>
-    ensures outcome { Drafted (meaning plant.now) rows.old rows.new rules.old rules.new result }
+    ensures outcome { Drafted (P.meaning plant.now) rows.old rows.new rules.old rules.new result }
     ensures within { IfOk result (λ n. n ≤ length rules.new) }
 {
     check_room(plant, rows.len(), rules.len())?;

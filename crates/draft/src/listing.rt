@@ -85,8 +85,8 @@ fn write_state(row: Row, lines: u32, state: u32, rules: &mut [Rule], at: usize) 
 
 // Writes the rules of all rows, by state, line and prefix, from the first place on. Their number.
 pub(crate) fn write_rules<P: Plant>(plant: &P, rows: &[Row], rules: &mut [Rule]) -> usize
-    requires { (length rows.now ≡ states (meaning plant.now)) × (places_needed (meaning plant.now) ≤ length rules.old) }
-    ensures { Wrote rules.old rules.new 0 result (rules_of (meaning plant.now).bits (meaning plant.now).lines rows.now) }
+    requires { (length rows.now ≡ states (P.meaning plant.now)) × (places_needed (P.meaning plant.now) ≤ length rules.old) }
+    ensures { Wrote rules.old rules.new 0 result (rules_of (P.meaning plant.now).bits (P.meaning plant.now).lines rows.now) }
 {
     let lines = plant.lines();
     let mut end = 0;

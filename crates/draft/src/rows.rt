@@ -18,7 +18,7 @@ fn with_open(row: Row, setting: u32) -> Row
 
 // The settings of `state` that are safe and lead only to states whose flag is up.
 fn open_row<P: Plant>(plant: &P, held: &[bool], state: u32) -> Row
-    ensures { result ≡ row_from (meaning plant.now) held.now state }
+    ensures { result ≡ row_from (P.meaning plant.now) held.now state }
 {
     let mut row = 0;
     for a in 0..plant.settings() {
@@ -32,8 +32,8 @@ fn open_row<P: Plant>(plant: &P, held: &[bool], state: u32) -> Row
 // The row of a state, given the flags of the states that last. The plant is asked only where the flag is up:
 // a state that does not last has nothing open.
 fn row_of<P: Plant>(plant: &P, held: &[bool], state: u32) -> Row
-    requires { (Greatest (meaning plant.now) held.now) × (state < states (meaning plant.now)) }
-    ensures { result ≡ row_from (meaning plant.now) held.now state }
+    requires { (Greatest (P.meaning plant.now) held.now) × (state < states (P.meaning plant.now)) }
+    ensures { result ≡ row_from (P.meaning plant.now) held.now state }
 {
     if !held[state as usize] {
         return 0;
@@ -43,8 +43,8 @@ fn row_of<P: Plant>(plant: &P, held: &[bool], state: u32) -> Row
 
 // Writes the row of each state, given the flags of the states that last.
 fn write_rows<P: Plant>(plant: &P, held: &[bool], rows: &mut [Row])
-    requires { (length rows.old ≡ states (meaning plant.now)) × (Greatest (meaning plant.now) held.now) }
-    ensures { rows.new ≡ rows_from (meaning plant.now) held.now }
+    requires { (length rows.old ≡ states (P.meaning plant.now)) × (Greatest (P.meaning plant.now) held.now) }
+    ensures { rows.new ≡ rows_from (P.meaning plant.now) held.now }
 {
     for s in 0..plant.states() {
         rows[s as usize] = row_of(plant, held, s);
@@ -53,8 +53,8 @@ fn write_rows<P: Plant>(plant: &P, held: &[bool], rows: &mut [Row])
 
 // Fills the rows with the largest safe assignment of the plant.
 pub(crate) fn fill_rows<P: Plant>(plant: &P, rows: &mut [Row])
-    requires { length rows.old ≡ states (meaning plant.now) }
-    ensures { rows.new ≡ rows_of (meaning plant.now) }
+    requires { length rows.old ≡ states (P.meaning plant.now) }
+    ensures { rows.new ≡ rows_of (P.meaning plant.now) }
 {
     let mut flags = [false; MAX_STATES];
     let held = &mut flags[0..rows.len()];
@@ -64,8 +64,8 @@ pub(crate) fn fill_rows<P: Plant>(plant: &P, rows: &mut [Row])
 
 // The lowest start whose row is empty.
 pub(crate) fn lost_start<P: Plant>(plant: &P, rows: &[Row]) -> Option<u32>
-    requires { length rows.now ≡ states (meaning plant.now) }
-    ensures { MatchOption result (AllOpen (meaning plant.now) rows.now) (λ t. Lost (meaning plant.now) rows.now t) }
+    requires { length rows.now ≡ states (P.meaning plant.now) }
+    ensures { MatchOption result (AllOpen (P.meaning plant.now) rows.now) (λ t. Lost (P.meaning plant.now) rows.now t) }
 {
     for t in 0..plant.states() {
         if rows[t as usize] == 0 && plant.is_start(t) {

@@ -9,7 +9,7 @@ use plant::{Condition, Plant};
 
 // Whether the setting is safe below and no ban is true of the pair.
 fn is_safe_under<P: Plant>(below: &P, bans: &[Condition], state: u32, setting: u32) -> bool
-    ensures { result ≡ (banned_meaning (meaning below.now) bans.now).safe state setting }
+    ensures { result ≡ (banned_meaning (P.meaning below.now) bans.now).safe state setting }
 {
     if !below.is_safe(state, setting) {
         return false;

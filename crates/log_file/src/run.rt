@@ -18,8 +18,8 @@ fn make_call<P: Plant>(
     call: Call,
     offset: usize,
 ) -> Result<(), LogFileFault>
-    ensures answers { result ≡ call_made offset (answer (meaning plant.now) rules.now reader.old.phase call) }
-    ensures moves { reader.new.phase ≡ after (meaning plant.now) rules.now reader.old.phase call }
+    ensures answers { result ≡ call_made offset (answer (P.meaning plant.now) rules.now reader.old.phase call) }
+    ensures moves { reader.new.phase ≡ after (P.meaning plant.now) rules.now reader.old.phase call }
 {
     match reader.make(plant, rules, call) {
         Ok(()) => Ok(()),
@@ -35,8 +35,8 @@ fn run_entries<P: Plant>(
     bytes: &[u8],
     start: usize,
 ) -> Result<usize, LogFileFault>
-    ensures computed { record { answer = result; phase = reader.new.phase } ≡ run_from (meaning plant.now) rules.now bytes.now (length bytes.now) (record { phase = reader.old.phase; taken = 0 }) start }
-    ensures ran { start ≡ 0 → Ran (meaning plant.now) rules.now reader.old.phase reader.new.phase bytes.now result }
+    ensures computed { record { answer = result; phase = reader.new.phase } ≡ run_from (P.meaning plant.now) rules.now bytes.now (length bytes.now) (record { phase = reader.old.phase; taken = 0 }) start }
+    ensures ran { start ≡ 0 → Ran (P.meaning plant.now) rules.now reader.old.phase reader.new.phase bytes.now result }
 {
     let mut at = start;
     let mut taken = 0;
@@ -60,7 +60,7 @@ pub fn run_log<P: Plant>(
     rules: &[Rule],
     bytes: &[u8],
 ) -> Result<usize, LogFileFault>
-    ensures { Ran (meaning plant.now) rules.now reader.old.phase reader.new.phase bytes.now result }
+    ensures { Ran (P.meaning plant.now) rules.now reader.old.phase reader.new.phase bytes.now result }
 {
     run_entries(reader, plant, rules, bytes, 0)
 }

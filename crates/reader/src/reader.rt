@@ -26,7 +26,7 @@ pub struct Reader {
 
 // The phase after a begin of `state`, where no session is open.
 pub fn begun<P: Plant>(plant: &P, state: u32) -> Result<Phase, LogFault>
-    ensures { result ≡ offered (states (meaning plant.now)) state ((meaning plant.now).start state) (NoStart state) (Poised state) }
+    ensures { result ≡ offered (states (P.meaning plant.now)) state ((P.meaning plant.now).start state) (NoStart state) (Poised state) }
 {
     if state >= plant.states() {
         return Err(LogFault::BeyondSizes { number: state });
@@ -44,7 +44,7 @@ pub fn driven<P: Plant>(
     state: u32,
     setting: u32,
 ) -> Result<Phase, LogFault>
-    ensures { result ≡ offered (settings (meaning plant.now)) setting (fits_there (meaning plant.now) rules.now state setting) (Misfit setting) (Driven state setting) }
+    ensures { result ≡ offered (settings (P.meaning plant.now)) setting (fits_there (P.meaning plant.now) rules.now state setting) (Misfit setting) (Driven state setting) }
 {
     if setting >= plant.settings() {
         return Err(LogFault::BeyondSizes { number: setting });
@@ -57,7 +57,7 @@ pub fn driven<P: Plant>(
 
 // The phase after the machine was seen in `next`, driven by `setting` in `state`.
 pub fn seen<P: Plant>(plant: &P, state: u32, setting: u32, next: u32) -> Result<Phase, LogFault>
-    ensures { result ≡ offered (states (meaning plant.now)) next ((meaning plant.now).follows state setting next) (NotFollowing next) (Poised next) }
+    ensures { result ≡ offered (states (P.meaning plant.now)) next ((P.meaning plant.now).follows state setting next) (NotFollowing next) (Poised next) }
 {
     if next >= plant.states() {
         return Err(LogFault::BeyondSizes { number: next });
@@ -86,8 +86,8 @@ impl Reader {
 
     // One call: what it does depends on the phase and the call together.
     pub fn make<P: Plant>(&mut self, plant: &P, rules: &[Rule], call: Call) -> Result<(), LogFault>
-        ensures answers { result ≡ answer (meaning plant.now) rules.now self.old.phase call }
-        ensures moves { self.new.phase ≡ after (meaning plant.now) rules.now self.old.phase call }
+        ensures answers { result ≡ answer (P.meaning plant.now) rules.now self.old.phase call }
+        ensures moves { self.new.phase ≡ after (P.meaning plant.now) rules.now self.old.phase call }
     {
         let next = match (self.phase, call) {
             (Phase::Closed, Call::Begin { state }) => begun(plant, state)?,
@@ -106,32 +106,32 @@ impl Reader {
 
     // A session begins: taken when closed and `state` is a start.
     pub fn begin<P: Plant>(&mut self, plant: &P, rules: &[Rule], state: u32) -> Result<(), LogFault>
-        ensures answers { result ≡ answer (meaning plant.now) rules.now self.old.phase (Begin state) }
-        ensures moves { self.new.phase ≡ after (meaning plant.now) rules.now self.old.phase (Begin state) }
+        ensures answers { result ≡ answer (P.meaning plant.now) rules.now self.old.phase (Begin state) }
+        ensures moves { self.new.phase ≡ after (P.meaning plant.now) rules.now self.old.phase (Begin state) }
     {
         self.make(plant, rules, Call::Begin { state })
     }
 
     // A setting is made: taken when poised and it fits there.
     pub fn set<P: Plant>(&mut self, plant: &P, rules: &[Rule], setting: u32) -> Result<(), LogFault>
-        ensures answers { result ≡ answer (meaning plant.now) rules.now self.old.phase (Set setting) }
-        ensures moves { self.new.phase ≡ after (meaning plant.now) rules.now self.old.phase (Set setting) }
+        ensures answers { result ≡ answer (P.meaning plant.now) rules.now self.old.phase (Set setting) }
+        ensures moves { self.new.phase ≡ after (P.meaning plant.now) rules.now self.old.phase (Set setting) }
     {
         self.make(plant, rules, Call::Set { setting })
     }
 
     // The machine is seen: taken when driven and `state` follows the pair.
     pub fn see<P: Plant>(&mut self, plant: &P, rules: &[Rule], state: u32) -> Result<(), LogFault>
-        ensures answers { result ≡ answer (meaning plant.now) rules.now self.old.phase (See state) }
-        ensures moves { self.new.phase ≡ after (meaning plant.now) rules.now self.old.phase (See state) }
+        ensures answers { result ≡ answer (P.meaning plant.now) rules.now self.old.phase (See state) }
+        ensures moves { self.new.phase ≡ after (P.meaning plant.now) rules.now self.old.phase (See state) }
     {
         self.make(plant, rules, Call::See { state })
     }
 
     // The session ends: taken when not closed.
     pub fn close<P: Plant>(&mut self, plant: &P, rules: &[Rule]) -> Result<(), LogFault>
-        ensures answers { result ≡ answer (meaning plant.now) rules.now self.old.phase Close }
-        ensures moves { self.new.phase ≡ after (meaning plant.now) rules.now self.old.phase Close }
+        ensures answers { result ≡ answer (P.meaning plant.now) rules.now self.old.phase Close }
+        ensures moves { self.new.phase ≡ after (P.meaning plant.now) rules.now self.old.phase Close }
     {
         self.make(plant, rules, Call::Close)
     }
@@ -145,7 +145,7 @@ impl Reader {
         answers: &mut [Result<(), LogFault>],
     )
         requires { length calls.now ≡ length answers.old }
-        ensures { Ran (meaning plant.now) rules.now self.old.phase self.new.phase calls.now answers.new }
+        ensures { Ran (P.meaning plant.now) rules.now self.old.phase self.new.phase calls.now answers.new }
     {
         for (i, call) in calls.iter().enumerate() {
             answers[i] = self.make(plant, rules, *call);
@@ -161,7 +161,7 @@ impl Reader {
         calls: &[Call],
         answers: &mut [Result<(), LogFault>],
     ) -> Result<(), AnswerPlaces>
-        ensures { Run (meaning plant.now) rules.now self.old.phase self.new.phase calls.now answers.old answers.new result }
+        ensures { Run (P.meaning plant.now) rules.now self.old.phase self.new.phase calls.now answers.old answers.new result }
     {
         if answers.len() != calls.len() {
             let needed = calls.len();

@@ -85,8 +85,8 @@ fn breaks_none(state_bits: u32, lines: u32, rules: &[Rule], state: u32, setting:
 
 // Whether the setting fits: it breaks none of the rules in this state.
 pub fn fits<P: Plant>(plant: &P, rules: &[Rule], state: u32, setting: u32) -> bool
-    ensures value { result ≡ fits (meaning plant.now).bits (meaning plant.now).lines rules.now state setting }
-    ensures in_words { Decides result (Fits (meaning plant.now).bits (meaning plant.now).lines rules.now state setting) }
+    ensures value { result ≡ fits (P.meaning plant.now).bits (P.meaning plant.now).lines rules.now state setting }
+    ensures in_words { Decides result (Fits (P.meaning plant.now).bits (P.meaning plant.now).lines rules.now state setting) }
 {
     let state_bits = plant.state_bits();
     let lines = plant.lines();

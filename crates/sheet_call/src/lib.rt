@@ -58,8 +58,8 @@ fn draft_first<P: Plant>(
     rows: &mut [Row],
     rules: &mut [Rule],
 ) -> Result<usize, DraftFault>
-    requires { (states (meaning plant.now) ≤ length rows.old) × (places_needed (meaning plant.now) ≤ length rules.old) }
-    ensures { FirstRows (meaning plant.now) rows.old rows.new rules.old rules.new result }
+    requires { (states (P.meaning plant.now) ≤ length rows.old) × (places_needed (P.meaning plant.now) ≤ length rules.old) }
+    ensures { FirstRows (P.meaning plant.now) rows.old rows.new rules.old rules.new result }
 {
     draft(plant, &mut rows[0..plant.states() as usize], rules)
 }

@@ -14,9 +14,9 @@ use rules::Rule;
 
 // The first stand, where `state` is a start.
 fn first_stand<P: Plant>(plant: &P, state: u32) -> Result<AwaitsSetting, LogFault>
-    ensures value { result ≡ first_stand (meaning plant.now) state }
-    ensures sessions { (rs : List DriveRule) → Sessions (meaning plant.now) rs }
-    ensures lawful { (rs : List DriveRule) → Faithful (meaning plant.now) rs → LawfulSessions (meaning plant.now) rs }
+    ensures value { result ≡ first_stand (P.meaning plant.now) state }
+    ensures sessions { (rs : List DriveRule) → Sessions (P.meaning plant.now) rs }
+    ensures lawful { (rs : List DriveRule) → Faithful (P.meaning plant.now) rs → LawfulSessions (P.meaning plant.now) rs }
 {
     begun(plant, state)?;
     Ok(AwaitsSetting { state })
@@ -25,9 +25,9 @@ fn first_stand<P: Plant>(plant: &P, state: u32) -> Result<AwaitsSetting, LogFaul
 impl AwaitsSetting {
     // A session begins: taken when `state` is a start.
     pub fn begin<P: Plant>(plant: &P, state: u32) -> Result<AwaitsSetting, LogFault>
-        ensures value { result ≡ first_stand (meaning plant.now) state }
-        ensures sessions { (rs : List DriveRule) → Sessions (meaning plant.now) rs }
-        ensures lawful { (rs : List DriveRule) → Faithful (meaning plant.now) rs → LawfulSessions (meaning plant.now) rs }
+        ensures value { result ≡ first_stand (P.meaning plant.now) state }
+        ensures sessions { (rs : List DriveRule) → Sessions (P.meaning plant.now) rs }
+        ensures lawful { (rs : List DriveRule) → Faithful (P.meaning plant.now) rs → LawfulSessions (P.meaning plant.now) rs }
     {
         first_stand(plant, state)
     }
@@ -47,8 +47,8 @@ impl AwaitsSetting {
         rules: &[Rule],
         setting: u32,
     ) -> Result<AwaitsSighting, NotTaken<AwaitsSetting>>
-        ensures value { result ≡ set_stand (meaning plant.now) rules.now self setting }
-        ensures as_read { AsRead for_setting for_sighting (meaning plant.now) rules.now (Poised self.state) (Set setting) result }
+        ensures value { result ≡ set_stand (P.meaning plant.now) rules.now self setting }
+        ensures as_read { AsRead for_setting for_sighting (P.meaning plant.now) rules.now (Poised self.state) (Set setting) result }
     {
         match driven(plant, rules, self.state, setting) {
             Ok(_) => {

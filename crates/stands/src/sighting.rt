@@ -26,8 +26,8 @@ impl AwaitsSighting {
         plant: &P,
         next: u32,
     ) -> Result<AwaitsSetting, NotTaken<AwaitsSighting>>
-        ensures value { result ≡ seen_stand (meaning plant.now) self next }
-        ensures as_read { (rs : List DriveRule) → AsRead for_sighting for_setting (meaning plant.now) rs (Driven self.state self.setting) (See next) result }
+        ensures value { result ≡ seen_stand (P.meaning plant.now) self next }
+        ensures as_read { (rs : List DriveRule) → AsRead for_sighting for_setting (P.meaning plant.now) rs (Driven self.state self.setting) (See next) result }
     {
         match seen(plant, self.state, self.setting, next) {
             Ok(_) => {

@@ -8,7 +8,7 @@ use rules::{Rule, fits};
 
 // The lowest setting that fits in this state.
 fn lowest_fit<P: Plant>(plant: &P, rules: &[Rule], state: u32) -> Option<u32>
-    ensures { MatchOption result (NoneFits (meaning plant.now) rules.now state) (λ a. LowestFit (meaning plant.now) rules.now state a) }
+    ensures { MatchOption result (NoneFits (P.meaning plant.now) rules.now state) (λ a. LowestFit (P.meaning plant.now) rules.now state a) }
 {
     for setting in 0..plant.settings() {
         if fits(plant, rules, state, setting) {
@@ -21,7 +21,7 @@ fn lowest_fit<P: Plant>(plant: &P, rules: &[Rule], state: u32) -> Option<u32>
 impl AwaitsSetting {
     // The setting that the console suggests: the lowest that fits, none where no setting fits.
     pub fn suggestion<P: Plant>(&self, plant: &P, rules: &[Rule]) -> Option<u32>
-        ensures { Suggests (meaning plant.now) rules.now self.now.state result }
+        ensures { Suggests (P.meaning plant.now) rules.now self.now.state result }
     {
         lowest_fit(plant, rules, self.state)
     }

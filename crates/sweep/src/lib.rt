@@ -28,8 +28,8 @@ fn is_up(held: &[bool], state: u32) -> bool
 // Whether `setting` is safe in `state` and leads only to states whose flag is up.
 // The plant is asked about a following only where the flag is down.
 pub fn pair_stays<P: Plant>(plant: &P, held: &[bool], state: u32, setting: u32) -> bool
-    ensures value { result ≡ stays (meaning plant.now) (held_in held.now) state setting }
-    ensures in_words { Decides result (Stays (meaning plant.now) (held_in held.now) state setting) }
+    ensures value { result ≡ stays (P.meaning plant.now) (held_in held.now) state setting }
+    ensures in_words { Decides result (Stays (P.meaning plant.now) (held_in held.now) state setting) }
 {
     if !plant.is_safe(state, setting) {
         return false;
@@ -44,7 +44,7 @@ pub fn pair_stays<P: Plant>(plant: &P, held: &[bool], state: u32, setting: u32) 
 
 // Whether some setting of `state` is safe and leads only to states whose flag is up.
 fn state_stays<P: Plant>(plant: &P, held: &[bool], state: u32) -> bool
-    ensures { result ≡ can_stay (meaning plant.now) (held_in held.now) state }
+    ensures { result ≡ can_stay (P.meaning plant.now) (held_in held.now) state }
 {
     for a in 0..plant.settings() {
         if pair_stays(plant, held, state, a) {
@@ -56,8 +56,8 @@ fn state_stays<P: Plant>(plant: &P, held: &[bool], state: u32) -> bool
 
 // One sweep: lowers the flag of each state that can not stay among the flagged. Whether a flag fell.
 fn sweep<P: Plant>(plant: &P, held: &mut [bool]) -> bool
-    requires { length held.old ≡ states (meaning plant.now) }
-    ensures { Swept (meaning plant.now) held.old held.new result }
+    requires { length held.old ≡ states (P.meaning plant.now) }
+    ensures { Swept (P.meaning plant.now) held.old held.new result }
 {
     let mut changed = false;
     for s in 0..plant.states() {
@@ -79,7 +79,7 @@ fn raise_all(held: &mut [bool])
 
 // Flags the states that last: those in which the machine can be kept safe for ever.
 pub fn lasting_states<P: Plant>(plant: &P, held: &mut [bool]) -> Result<(), WrongLength>
-    ensures { Flagged (meaning plant.now) held.old held.new result }
+    ensures { Flagged (P.meaning plant.now) held.old held.new result }
 {
     let needed = plant.states() as usize;
     if held.len() != needed {
