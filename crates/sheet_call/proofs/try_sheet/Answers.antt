@@ -23,8 +23,8 @@ draft_first-requires c =
     let places = few_places (meant x) (within x) in
     (omega arith, omega arith)
 
-pub slice-bounds-put_lines-end : goal.slice-bounds-put_lines-end
-slice-bounds-put_lines-end c =
+pub slice_bounds-put_lines-end : goal.slice_bounds-put_lines-end
+slice_bounds-put_lines-end c =
     let x = c.in_ok-plan.plan in
     let few = few_states (meant x) (within x) in
     let kept = c.draft_first.auto.rows in

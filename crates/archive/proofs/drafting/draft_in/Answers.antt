@@ -11,8 +11,8 @@ use Rattle.archive.proofs.Drafts.{drafted_err, drafted_rules, written_ok, writte
 use Rattle.draft.proofs.Places.{few_places}
 use Rattle.archive.proofs.drafting.draft_in.Goals as goal
 
-pub slice-bounds-draft-end : goal.slice-bounds-draft-end
-slice-bounds-draft-end g c =
+pub slice_bounds-draft-end : goal.slice_bounds-draft-end
+slice_bounds-draft-end g c =
     let few = few_states (g.P.Plant.meaning c.args.plant.now) (g.P.Plant.sound c.args.plant.now) in
     omega arith
 

@@ -24,14 +24,14 @@ room c =
     let ends = c.loop-prefix.invariant.ends in
     omega arith
 
-pub offset-bounds-rules-end : goal.offset-bounds-rules-end
-offset-bounds-rules-end c = let lt = room c in search rules
+pub offset_bounds-rules-end : goal.offset_bounds-rules-end
+offset_bounds-rules-end c = let lt = room c in search rules
 
 pub bounds-rules-end : goal.bounds-rules-end
 bounds-rules-end c = let lt = room c in search rules
 
-pub overflow-add-end : goal.overflow-add-end
-overflow-add-end c = let lt = room c in search rules
+pub overflow_add-end : goal.overflow_add-end
+overflow_add-end c = let lt = room c in search rules
 
 pub loop-prefix-preserved : goal.loop-prefix-preserved
 loop-prefix-preserved c =

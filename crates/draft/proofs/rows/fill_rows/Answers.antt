@@ -3,8 +3,8 @@ use Rattle.plant.specs.Meaning.{most_bits}
 use Rattle.plant.proofs.Sizes.{few_states}
 use Rattle.draft.proofs.rows.fill_rows.Goals as goal
 
-pub slice-bounds-flags-end : goal.slice-bounds-flags-end
-slice-bounds-flags-end g c =
+pub slice_bounds-flags-end : goal.slice_bounds-flags-end
+slice_bounds-flags-end g c =
     let m = g.P.Plant.meaning c.args.plant.now in
     let few = few_states m (g.P.Plant.sound c.args.plant.now) in
     let short : length c.args.rows.now ≤ 2 ^ most_bits = omega arith in

@@ -12,7 +12,7 @@ returns c =
     let bs = c.args.bytes.now in
     let r = c.judge_plan.result in
     let judged : AsExpected (judge bs) parts_of r = c.judge_plan.ensures.judged in
-    let small : (i : ℕ) → byte bs i < 256 = λ i. (c.type-inv.bytes i).fits in
+    let small : (i : ℕ) → byte bs i < 256 = λ i. (c.type_inv.bytes i).fits in
     record {
       judged = judged;
       admitted = read_admitted bs r judged;

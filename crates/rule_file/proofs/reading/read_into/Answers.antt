@@ -22,7 +22,7 @@ fill-requires c =
     let b = c.args.sizes.state_bits in
     let n = c.args.sizes.lines in
     let w = read_counted b n c.args.bytes.now c.args.list.now (sym c.if-not-sizes_fit.ensures) c.in_ok-count.count c.in_ok-count.ensures in
-    (w.few-bytes, w.few)
+    (w.few_bytes, w.few)
 
 pub returns : goal.returns
 returns c =
