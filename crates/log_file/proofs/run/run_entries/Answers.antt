@@ -39,8 +39,8 @@ returns-in-End g c =
     let is : record { answer = Ok c.loop-call.taken; phase = phase } ≡ run_from m rs bytes (length bytes) (record { phase = before; taken = 0 }) c.args.start = sym end ∙ inv.3 in
     record { computed = is; ran = λ zero. ran m rs before bytes phase (Ok c.loop-call.taken) (is ∙ ap (run_from m rs bytes (length bytes) (record { phase = before; taken = 0 })) zero) }
 
-pub returns-in_err-make_call : goal.returns-in_err-make_call
-returns-in_err-make_call g c =
+pub returns-in_err-make_call-in-Made : goal.returns-in_err-make_call-in-Made
+returns-in_err-make_call-in-Made g c =
     let m = g.P.Plant.meaning c.args.plant.now in
     let rs = c.args.rules.now in
     let bytes = c.args.bytes.now in
@@ -50,13 +50,13 @@ returns-in_err-make_call g c =
     let call = c.in-Made.call in
     let inv = c.loop-call.invariant in
     let is = sym c.entry_at.ensures.computed ∙ c.in_ok-entry_at.was ∙ ap Ok c.in-Made.is in
-    let q = err_from_is_err_and c.from_residual-in_err-make_call.result c.from_residual-in_err-make_call.ensures.1 in
-    let w = made_err at (answer m rs phase call) c.in_err-make_call.field-0.0 c.in_err-make_call.ensures.answers in
+    let q = err_from_is_err_and c.from_residual-in_err-make_call-in-Made.result c.from_residual-in_err-make_call-in-Made.ensures.1 in
+    let w = made_err at (answer m rs phase call) c.in_err-make_call-in-Made.field-0.0 c.in_err-make_call-in-Made.ensures.answers in
     let refused = at_refused m rs bytes inv.0 (record { phase = phase; taken = c.loop-call.taken }) at inv.1 call c.in-Made.end is w.0 w.1 in
     let same : c.make_call.new.reader.phase ≡ phase = c.make_call.ensures.moves ∙ left_alone m rs phase call w.0 w.1 in
-    let done : record { answer = c.from_residual-in_err-make_call.result; phase = c.make_call.new.reader.phase } ≡ run_from m rs bytes (length bytes) (record { phase = before; taken = 0 }) c.args.start =
+    let done : record { answer = c.from_residual-in_err-make_call-in-Made.result; phase = c.make_call.new.reader.phase } ≡ run_from m rs bytes (length bytes) (record { phase = before; taken = 0 }) c.args.start =
     ap (λ x. record { answer = x; phase = c.make_call.new.reader.phase }) (q.1 ∙ ap Err (q.2 ∙ w.2)) ∙ ap (λ x. record { answer = Err (Refused at w.0); phase = x }) same ∙ sym refused ∙ inv.3 in
-    record { computed = done; ran = λ zero. ran m rs before bytes c.make_call.new.reader.phase c.from_residual-in_err-make_call.result (done ∙ ap (run_from m rs bytes (length bytes) (record { phase = before; taken = 0 })) zero) }
+    record { computed = done; ran = λ zero. ran m rs before bytes c.make_call.new.reader.phase c.from_residual-in_err-make_call-in-Made.result (done ∙ ap (run_from m rs bytes (length bytes) (record { phase = before; taken = 0 })) zero) }
 
 pub loop-call-preserved : goal.loop-call-preserved
 loop-call-preserved g c =
@@ -75,7 +75,7 @@ loop-call-preserved g c =
     let there = subst (λ x. EntryInWords bytes at x) is (entry_words bytes at) in
     let next = there.next in
     let some = call_some call in
-    let taken = at_taken m rs bytes f (record { phase = phase; taken = c.loop-call.taken }) at left call end is (made_ok at (answer m rs phase call) c.in_ok-make_call.ensures.answers) in (
+    let taken = at_taken m rs bytes f (record { phase = phase; taken = c.loop-call.taken }) at left call end is (made_ok at (answer m rs phase call) c.in_ok-make_call-in-Made.ensures.answers) in (
       pred f,
       omega arith,
       omega arith,
