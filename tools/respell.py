@@ -93,8 +93,9 @@ def antt_text(text, turner, mine):
         at = comment_start(line)
         code, rest = line[:at], line[at:]
         m = USE.match(line)
+        code = re.sub(r"( as )(" + NAME + ")", lambda a: a.group(1) + new_name(a.group(2)), code) if m else code
         if m and not own_path(m.group(1), mine):
-            out.append(line)
+            out.append(code + rest)
         else:
             out.append(turner.turn(code, foreign, goals, steps) + rest)
     return "\n".join(out)

@@ -13,7 +13,7 @@ use Rattle.rule_file.specs.Order.{InOrder}
 use Rattle.rule_file.specs.Outcome.{ReadInWords}
 use Rattle.rule_file.specs.Reading.{read_rules}
 use Rattle.rule_file.specs.declared.fault.RuleFileFault.{RuleFileFault}
-use Rattle.rule_file.specs.declared.fault.RuleFileFault.TheVariants as rule-file
+use Rattle.rule_file.specs.declared.fault.RuleFileFault.TheVariants as rule_file
 use Rattle.rule_file.specs.declared.fault.RuleFileFault.TheVariants.{FileRoom}
 use Rattle.log_file.specs.Outcome.{Ran}
 use Rattle.plan.specs.Admitted.{Admitted}
