@@ -6,7 +6,7 @@ usage: python3 tools/respell.py [--list]     at the top of the repository, once,
 A name with dashes that stands in an .antt file, or in a clause or a `ghost` line of an .rt file, is respelled,
 unless the file has it from a library of the kit, or the checker makes it (the names of goals, and steps below `c` or `l`).
 Comments, strings, code and everything outside crates/ stay as they are. With --list it writes nothing and prints each
-old name and the new one. Names that would fall together are printed, and nothing is written.
+old name and the new one. Names that would fall together are printed, with "look:" before them.
 """
 import glob
 import os
@@ -57,8 +57,8 @@ def foreign_names(text, mine):
     for m in USE.finditer(text):
         if m.group(2) and not own_path(m.group(1), mine):
             for part in m.group(2).split(","):
-                for w in part.split():
-                    found.add(w)
+                if " as " not in part:
+                    found.add(part.strip())
     return found
 
 

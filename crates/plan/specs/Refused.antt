@@ -14,7 +14,7 @@ use Rattle.plan.specs.Written.{Item, Written, Agreeing, Formed, InOrder, Limits,
 use Rattle.plan.specs.Written.Item.{start, next, auxiliary, ban}
 use Rattle.plan.specs.declared.clause.Clause.{Clause}
 use Rattle.plan.specs.declared.fault.PlanFault.{PlanFault}
-use Rattle.plan.specs.declared.fault.PlanFault.TheVariants.{Bytes, HeadMisplaced, SizeLimits, TooManyClauses, Malformed, Loop, Clash as Clash-fault, Memory}
+use Rattle.plan.specs.declared.fault.PlanFault.TheVariants.{Bytes, HeadMisplaced, SizeLimits, TooManyClauses, Malformed, Loop, Clash as ClashFault, Memory}
 use Rattle.plan.specs.declared.plan.Plan.{Plan}
 
 -- the clause clashes with one of the list
@@ -86,7 +86,7 @@ pub data Refused (bytes : List ℕ) : PlanFault → Type 0 where
   -- 8: the lowest auxiliary that depends on itself
   loop : (w : Written) (l : ℕ) → WellWritten w → bytes ≡ plan_bytes w → FirstLoop w l → Refused bytes (Loop l)
   -- 9: the lowest offset of a clause that clashes with one before it
-  clash : (w : Written) (o : ℕ) → WellWritten w → bytes ≡ plan_bytes w → LoopFree (flat_map auxiliary_of w.items) → FirstClash w o → Refused bytes (Clash-fault o)
+  clash : (w : Written) (o : ℕ) → WellWritten w → bytes ≡ plan_bytes w → LoopFree (flat_map auxiliary_of w.items) → FirstClash w o → Refused bytes (ClashFault o)
 
 -- there is something to store: the bytes begin with a head and at least one clause or ban, well-formed
 abbrev pub Stores : List ℕ → Type 0

@@ -17,7 +17,7 @@ use Rattle.draft.specs.Rows.{rows_of, open_in, places_needed}
 use Rattle.draft.specs.Starts.{Lost}
 use Rattle.draft.specs.Writing.{Wrote}
 use Rattle.draft.specs.declared.fault.DraftFault.{DraftFault}
-use Rattle.draft.specs.declared.fault.DraftFault.TheVariants.{LostStart, RowCount as Draft-RowCount, RulePlaces as Draft-RulePlaces}
+use Rattle.draft.specs.declared.fault.DraftFault.TheVariants.{LostStart, RowCount as DraftRowCount, RulePlaces as DraftRulePlaces}
 use Rattle.draft.proofs.Largest.{rows_size}
 use Rattle.plan.specs.Admitted.{Admitted}
 use Rattle.plan.specs.Judging.{judge}
@@ -232,8 +232,8 @@ module _ (bytes text rows : List ℕ) (rules : List Rule) where
       inl (subst (λ k. Pleads (Stores bytes) k) wanting tried.1, (lent_same (wrote_onto none) refl refl, sheet_same (wrote_size none) (ap (λ k. Err (Plan k)) wanting))))
       (λ e. inr (plan_computed text' len f e w'))
       (fails_cases (judge bytes) f tried.0))
-  refusal_computed text₁ text' rows' rules' len (Draft (Draft-RowCount n)) tried w = absurd tried.0.first_rows.promised
-  refusal_computed text₁ text' rows' rules' len (Draft (Draft-RulePlaces n)) tried w = absurd tried.0.first_rows.promised
+  refusal_computed text₁ text' rows' rules' len (Draft (DraftRowCount n)) tried w = absurd tried.0.first_rows.promised
+  refusal_computed text₁ text' rows' rules' len (Draft (DraftRulePlaces n)) tried w = absurd tried.0.first_rows.promised
   refusal_computed text₁ text' rows' rules' len (Draft (LostStart t)) tried w =
       inr (lost_computed text' rows' rules' len t tried.0 (subst (λ xs. Wrote xs text' 0 len (text_of_refusal (sheet_refusal (Draft (LostStart t))))) tried.1 w))
 
