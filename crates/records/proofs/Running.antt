@@ -1,5 +1,5 @@
 -- Going through a file record by record: one record more, and what holds of the whole. Assumes nothing.
-use Rattle.std.proofs.Common.{◌≡◌, ℕ, zero, suc, pred, ◌+◌, ◌<◌, ◌≤◌, sym, refl, ap, ◌∙◌, subst, arith}
+use Rattle.std.proofs.Common.{◌≡◌, ℕ, zero, suc, pred, ◌+◌, ◌<◌, ◌≤◌, sym, refl, ap, ◌∙◌, arith}
 use Rattle.records.specs.Running.{Next, over, onward, and_then, run_records}
 
 -- past the size there is nothing to go on with
