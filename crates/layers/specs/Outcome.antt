@@ -1,5 +1,5 @@
 -- What laying bans over a plant answers, for all input. Assumes nothing.
-use Rattle.std.specs.Prelude.{◌≡◌, ℕ, ◌<◌, ◌≤◌, List, ◌++◌, length}
+use Rattle.std.specs.Prelude.{◌≡◌, ◌<◌, ◌≤◌, List, ◌++◌, length}
 use Rattle.plant.specs.Meaning.{Meaning}
 use Rattle.plant.specs.declared.condition.Condition.{Condition}
 use Rattle.layers.specs.Banned.{banned_meaning, BannedWords}

@@ -1,5 +1,5 @@
 -- Running a log file, one record at a time. Assumes nothing.
-use Rattle.std.proofs.Common.{◌≡◌, ℕ, pred, ◌+◌, ◌≤◌, cond, List, length, is_ok, Ok, Err, Result, sym, refl, ap, ◌∙◌, arith}
+use Rattle.std.proofs.Common.{◌≡◌, ℕ, pred, ◌+◌, ◌≤◌, cond, List, length, is_ok, Ok, Err, Result, refl, ap, ◌∙◌, arith}
 use Rattle.plant.specs.Meaning.{Meaning}
 use Rattle.records.specs.Running.{Next, over}
 use Rattle.records.specs.declared.BytesFault.{BytesFault}

@@ -1,5 +1,5 @@
 -- A log of calls is run as far as they are taken. Assumes nothing.
-use Rattle.std.proofs.Common.{◌≡◌, ℕ, pred, ◌+◌, ◌<◌, ◌≤◌, List, [], ◌∷◌, ◌++◌, length, drop, replicate, Some, None, Ok, Err, Option, Result, sym, refl, ap, ◌∙◌, subst, inl, inr, arith}
+use Rattle.std.proofs.Common.{◌≡◌, ℕ, pred, ◌+◌, ◌≤◌, List, [], ◌∷◌, ◌++◌, length, drop, replicate, Some, None, Ok, Err, Option, Result, sym, refl, ap, ◌∙◌, subst, inl, inr, arith}
 use Rattle.std.proofs.lemmas.List.{append_assoc, drop_at, drop-drop, length-append, length-drop}
 use Rattle.plant.specs.Meaning.{Meaning}
 use Rattle.records.specs.Damage.{Damaged}
@@ -13,12 +13,12 @@ use Rattle.reader.specs.declared.call.Call.{Call}
 use Rattle.reader.specs.declared.call.Call.TheVariants.{Begin, Set, See, Close}
 use Rattle.reader.specs.declared.fault.LogFault.{LogFault}
 use Rattle.reader.specs.declared.phase.Phase.{Phase}
-use Rattle.log_file.specs.Encoding.{begin_code, set_code, see_code, close_code, end_code, log_kinds, call_bytes, calls_bytes, log_bytes}
+use Rattle.log_file.specs.Encoding.{begin_code, set_code, see_code, close_code, end_code, log_kinds, call_bytes, calls_bytes}
 use Rattle.log_file.specs.Outcome.{EntryInWords}
 use Rattle.log_file.specs.Running.{Progress, Ends, entry_at, run_from, run_log}
 use Rattle.log_file.specs.declared.entry.Entry.{Entry}
 use Rattle.log_file.specs.declared.entry.Entry.TheVariants.{Made, End}
-use Rattle.log_file.specs.declared.fault.LogFileFault.TheVariants.{Bytes, Refused}
+use Rattle.log_file.specs.declared.fault.LogFileFault.TheVariants.{Refused}
 use Rattle.log_file.proofs.Entries.{entry_words}
 use Rattle.log_file.proofs.Steps.{at_end, at_refused, at_taken, call_some}
 

@@ -1,5 +1,5 @@
 -- What running a log file comes to, in words. Assumes nothing.
-use Rattle.std.proofs.Common.{◌≡◌, ℕ, ◌+◌, ◌<◌, ◌≤◌, List, [], ◌∷◌, ◌++◌, length, take, drop, replicate, Ok, Err, Result, sym, refl, ap, ◌∙◌, subst, arith}
+use Rattle.std.proofs.Common.{◌≡◌, ℕ, ◌<◌, ◌≤◌, List, [], ◌∷◌, ◌++◌, length, take, drop, replicate, Ok, Err, Result, sym, refl, ap, ◌∙◌, subst, arith}
 use Rattle.std.proofs.lemmas.List.{append_assoc, flat_map_more, length-append, length_push, length-take-le, replicate_more, take-append-drop, take_at}
 use Rattle.plant.specs.Meaning.{Meaning}
 use Rattle.records.specs.Damage.{Damaged}
@@ -10,7 +10,6 @@ use Rattle.rules.specs.declared.Rule.{Rule}
 use Rattle.reader.specs.Step.{Answer, answer, after}
 use Rattle.reader.specs.Strings.{answers, phase_after}
 use Rattle.reader.specs.declared.call.Call.{Call}
-use Rattle.reader.specs.declared.fault.LogFault.{LogFault}
 use Rattle.reader.specs.declared.phase.Phase.{Phase}
 use Rattle.reader.proofs.Strings.{answers_push, phase_push}
 use Rattle.log_file.specs.Encoding.{log_kinds, end_code, call_bytes, calls_bytes}
@@ -18,7 +17,6 @@ use Rattle.log_file.specs.Outcome.{CallThere, EntryInWords, Taken, Over, TurnedA
 use Rattle.log_file.specs.Running.{Progress, Ends, entry_at, run_answered, run_entry, run_log}
 use Rattle.log_file.specs.declared.entry.Entry.{Entry}
 use Rattle.log_file.specs.declared.entry.Entry.TheVariants.{Made, End}
-use Rattle.log_file.specs.declared.fault.LogFileFault.TheVariants.{Bytes, Refused}
 use Rattle.log_file.proofs.Entries.{entry_words}
 use Rattle.log_file.proofs.Steps.{call_some, cut, past}
 use Rattle.log_file.proofs.Whole.{run_over, run_refused}

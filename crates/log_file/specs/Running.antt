@@ -8,7 +8,6 @@ use Rattle.records.specs.declared.BytesFault.TheVariants.{Unfinished, AfterEnd}
 use Rattle.records.specs.declared.Record.{Record}
 use Rattle.rules.specs.declared.Rule.{Rule}
 use Rattle.reader.specs.Step.{Answer, answer, after}
-use Rattle.reader.specs.declared.call.Call.{Call}
 use Rattle.reader.specs.declared.phase.Phase.{Phase}
 use Rattle.log_file.specs.Encoding.{log_kinds, end_code, call_of}
 use Rattle.log_file.specs.declared.entry.Entry.{Entry}

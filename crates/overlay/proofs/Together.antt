@@ -1,5 +1,5 @@
 -- Drafts under two lists of bans, one by one and together. Assumes nothing.
-use Rattle.std.proofs.Common.{◌≡◌, ℕ, ◌^◌, ◌<◌, Bool, true, false, not, ◌&&◌, ◌||◌, ltb, leb, List, [], ◌∷◌, ◌++◌, sym, refl, ap, ◌∙◌, arith}
+use Rattle.std.proofs.Common.{◌≡◌, ℕ, ◌<◌, Bool, true, false, not, ◌&&◌, ltb, leb, List, ◌++◌, sym, refl, ◌∙◌, arith}
 use Rattle.std.proofs.lemmas.Bool.{and_parts, and_from, or_parts, not-true, not_from_false, ltb-true, leb-true, eqb-true}
 use Rattle.plant.specs.Conditions.{holds, pair_word}
 use Rattle.plant.specs.Meaning.{Meaning, Within}
@@ -10,7 +10,7 @@ use Rattle.draft.proofs.Largest.{rows_filled}
 use Rattle.layers.specs.Banned.{banned_meaning}
 use Rattle.layers.specs.Sound.{banned_within}
 use Rattle.layers.proofs.Stacked.{some_joined}
-use Rattle.overlay.specs.Together.{WithinEach, SmallerTogether, small_machine}
+use Rattle.overlay.specs.Together.{WithinEach, SmallerTogether}
 
 module _ (m : Meaning) (within : Within m) where
   -- where fewer pairs are safe, no more is open

@@ -7,7 +7,7 @@ use mathlib.Core.List.{Memᴰ}
 use Rattle.std.proofs.lemmas.Nat.{and_le_r, or_lt}
 use Rattle.std.proofs.lemmas.Bool.{and_parts, and_from, or_cases, or_left, or_right, eqb-true, eq-eqb, both_ways, not-true, not_from_false, cases_Bool}
 use Rattle.plant.specs.Bits.{bit}
-use Rattle.plant.specs.Tests.{same, some_of}
+use Rattle.plant.specs.Tests.{some_of}
 use Rattle.plant.proofs.Bits.{bit_of_and, bit_of_or, no_bits, same_bits, below_pow}
 use Rattle.plant.proofs.Bounded.{same_tests, false_when_not}
 use Rattle.plant.proofs.Tests.{same_decides, some_decides}

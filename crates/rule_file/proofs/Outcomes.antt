@@ -1,13 +1,13 @@
 -- Reading a rule file as a whole. Assumes nothing.
-use Rattle.std.proofs.Common.{◌≡◌, ℕ, ◌+◌, ◌*◌, ◌<◌, ◌≤◌, Bool, true, false, cond, ◌&&◌, leb, List, [], ◌∷◌, ◌++◌, map, length, take, drop, Ok, Err, Decides, Result, sym, refl, ap, ◌∙◌, subst, arith}
+use Rattle.std.proofs.Common.{◌≡◌, ℕ, ◌*◌, ◌≤◌, Bool, true, false, cond, List, [], ◌∷◌, ◌++◌, map, length, take, drop, Ok, Err, Decides, Result, sym, refl, ap, ◌∙◌, subst, arith}
 use Rattle.std.specs.List.{range_with_len}
-use Rattle.std.proofs.lemmas.List.{append_assoc, length-append, take_at}
-use Rattle.std.proofs.lemmas.Bool.{and_parts, and_from, both_ways, cond-true, cond-false, leb-true, le-leb}
+use Rattle.std.proofs.lemmas.List.{length-append, take_at}
+use Rattle.std.proofs.lemmas.Bool.{both_ways, cond-true, cond-false}
 use Rattle.plant.proofs.Sizes.{limits_from, limits_fit}
 use Rattle.rules.specs.declared.Rule.{Rule}
 use Rattle.rule_file.specs.Encoding.{end_code, records_bytes, rules_bytes}
 use Rattle.plant.specs.Sizes.{Limits, sizes_fit}
-use Rattle.rule_file.specs.Outcome.{Read, ReadInWords, Whole}
+use Rattle.rule_file.specs.Outcome.{Read, ReadInWords}
 use Rattle.rule_file.specs.Reading.{Reads, rule_at, read_records, read_rules, counted, filled}
 use Rattle.rule_file.specs.declared.fault.RuleFileFault.{RuleFileFault}
 use Rattle.rule_file.specs.declared.fault.RuleFileFault.TheVariants.{SizeLimits}

@@ -1,28 +1,25 @@
 -- What reading a rule file comes to, in words. Assumes nothing.
-use Rattle.std.proofs.Common.{◌≡◌, ℕ, ◌+◌, ◌*◌, ◌<◌, ◌≤◌, Bool, true, false, cond, ◌&&◌, eqb, ltb, leb, ◌⊎◌, List, [], ◌∷◌, ◌++◌, map, length, get_or, take, drop, Some, None, Ok, Err, Option, Result, sym, refl, ap, ◌∙◌, subst, inl, inr, ⊎_elim, arith}
-use Rattle.std.specs.List.{range_with_len}
-use Rattle.std.proofs.lemmas.List.FromFn.{fill_by_all}
-use Rattle.std.proofs.lemmas.List.{append_assoc, append-nil, drop_all, flat_map_more, length-append, length_push, length-take-le, take-append-drop, take_at, get_or-append-add}
+use Rattle.std.proofs.Common.{◌≡◌, ℕ, ◌+◌, ◌<◌, ◌≤◌, Bool, true, false, cond, ◌&&◌, eqb, ltb, leb, List, [], ◌∷◌, ◌++◌, length, get_or, take, drop, Ok, Err, Result, sym, refl, ap, ◌∙◌, subst, arith}
+use Rattle.std.proofs.lemmas.List.{append_assoc, drop_all, flat_map_more, length-append, length_push, length-take-le, take-append-drop, take_at}
 use Rattle.std.proofs.lemmas.Bool.{and_parts, and_from, both_ways, eqb-true, eqb-false, leb-true, ltb-true, ltb-false}
 use Rattle.records.specs.Damage.{Damaged}
-use Rattle.records.specs.Reading.{record_at, body_length}
+use Rattle.records.specs.Reading.{record_at}
 use Rattle.records.specs.Running.{Next, over, onward, by_record}
 use Rattle.records.specs.declared.BytesFault.{BytesFault}
-use Rattle.records.specs.declared.BytesFault.TheVariants.{Unfinished, UnknownKind, AfterEnd}
+use Rattle.records.specs.declared.BytesFault.TheVariants.{Unfinished, AfterEnd}
 use Rattle.records.specs.declared.Record.{Record}
 use Rattle.records.proofs.Finding.{found, damaged, one_byte}
 use Rattle.records.proofs.Running.{run_keeps}
 use Rattle.rules.specs.Fitting.{in_range}
 use Rattle.rules.specs.declared.Rule.{Rule}
-use Rattle.rule_file.specs.Encoding.{rule_code, end_code, rule_kinds, rule_bytes, records_bytes, rules_bytes}
+use Rattle.rule_file.specs.Encoding.{rule_code, end_code, rule_kinds, rule_bytes, records_bytes}
 use Rattle.rule_file.specs.Order.{InOrder, last_rule, comes_after}
 use Rattle.plant.specs.Sizes.{Limits}
-use Rattle.rule_file.specs.Outcome.{Whole, Stopped, NoRule, OneTooMany, ReadInWords}
+use Rattle.rule_file.specs.Outcome.{Stopped, NoRule, OneTooMany, ReadInWords}
 use Rattle.rule_file.specs.Reading.{Reads, rule_at, stands_next, one_more, read_record, read_records, counted, filled}
-use Rattle.rule_file.specs.declared.fault.RuleFileFault.{RuleFileFault}
-use Rattle.rule_file.specs.declared.fault.RuleFileFault.TheVariants.{Bytes, SizeLimits, Misplaced, ListFull, FileRoom}
-use Rattle.rule_file.proofs.Ordering.{none_in_order, push_in_order, push_range, push_after, front_in_order}
-use Rattle.rule_file.proofs.Records.{five_bytes, rule_of_bytes, bytes_of_rule, front_rules, no_more}
+use Rattle.rule_file.specs.declared.fault.RuleFileFault.TheVariants.{Bytes, Misplaced, ListFull}
+use Rattle.rule_file.proofs.Ordering.{none_in_order, push_in_order, push_range, push_after}
+use Rattle.rule_file.proofs.Records.{five_bytes, rule_of_bytes, bytes_of_rule}
 use Rattle.rule_file.proofs.Steps.{past, other_found, end_found}
 
 -- the bytes below the offset are the records of these rules, which are in order and have places

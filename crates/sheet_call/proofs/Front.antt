@@ -1,17 +1,16 @@
 -- The first bytes of an input decide how it is judged. Assumes nothing.
-use Rattle.std.proofs.Common.{◌≡◌, ℕ, zero, suc, ◌+◌, ◌-◌, ◌*◌, ◌<◌, ◌≤◌, Bool, true, false, cond, eqb, ltb, leb, List, length, get_or, take, IfSome, Some, None, Ok, Err, Option, Result, sym, refl, ap, ◌∙◌, ap₂, ⊎_elim, arith}
+use Rattle.std.proofs.Common.{◌≡◌, ℕ, zero, suc, ◌+◌, ◌-◌, ◌*◌, ◌<◌, ◌≤◌, Bool, true, false, cond, eqb, ltb, leb, List, length, take, IfSome, Some, None, Ok, Err, Option, Result, sym, refl, ap, ◌∙◌, ap₂, ⊎_elim, arith}
 use Rattle.std.proofs.lemmas.List.{get_or-take, length-take-le, take_all}
 use Rattle.std.proofs.lemmas.Bool.{cases_lt, cond_both, cond-false, cond-true, le-ltb, leb-false, lt-ltb}
 use Rattle.records.specs.Reading.{body_length, record_at, whole_record}
 use Rattle.records.specs.declared.BytesFault.{BytesFault}
-use Rattle.records.specs.declared.BytesFault.TheVariants.{UnknownKind, Unfinished, AfterEnd}
+use Rattle.records.specs.declared.BytesFault.TheVariants.{UnknownKind}
 use Rattle.records.specs.declared.Record.{Record}
 use Rattle.plan.specs.Items.{byte, mask_at, condition_at, clause_at, item_fits}
-use Rattle.plan.specs.Judging.{Seen, plan_kinds, most_clauses, kept, judge_record, judge_whole, judge_end, go_on, judge_found, judge_from, judge_head, judge, none_yet}
+use Rattle.plan.specs.Judging.{Seen, plan_kinds, most_clauses, kept, judge_record, go_on, judge_found, judge_from, judge_head, judge, none_yet}
 use Rattle.plan.specs.Machine.{Parts}
-use Rattle.plan.specs.declared.clause.Clause.{Clause}
 use Rattle.plan.specs.declared.fault.PlanFault.{PlanFault}
-use Rattle.plan.specs.declared.fault.PlanFault.TheVariants.{Bytes, HeadMisplaced, TooManyClauses, Malformed}
+use Rattle.plan.specs.declared.fault.PlanFault.TheVariants.{HeadMisplaced, TooManyClauses, Malformed}
 use Rattle.sheet_call.specs.Room.{input_needed}
 
 -- a body of a plan has ten bytes at most

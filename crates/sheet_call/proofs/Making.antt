@@ -1,19 +1,18 @@
 -- A draft that keeps its promises makes what is computed. Assumes nothing.
-use Rattle.std.proofs.Common.{◌≡◌, ℕ, zero, suc, ◌-◌, ◌^◌, ◌<◌, ◌≤◌, Bool, true, false, cond, ◌&&◌, eqb, ◌⊎◌, List, [], ◌++◌, length, get_or, take, drop, IfOk as made, Some, None, Ok, Err, Decides, Option, Result, sym, refl, ap, ◌∙◌, subst, subst₂, inl, inr, ⊎_elim, mul-le-mul, arith}
+use Rattle.std.proofs.Common.{◌≡◌, ℕ, zero, suc, ◌<◌, ◌≤◌, Bool, true, false, cond, ◌&&◌, eqb, ◌⊎◌, List, [], ◌++◌, length, get_or, take, drop, IfOk as made, Some, None, Ok, Err, Decides, Result, sym, refl, ap, ◌∙◌, subst, subst₂, inl, inr, ⊎_elim, arith}
 use Rattle.std.proofs.lemmas.List.{length-append, length-take-le, take_at}
 use Rattle.std.proofs.lemmas.Bool.{and_parts, and_from, both_ways, cases_eq, eqb-true, eq-eqb}
-use Rattle.plant.specs.Meaning.{Meaning, Within, states, settings, most_lines}
+use Rattle.plant.specs.Meaning.{Meaning, Within, states, settings}
 use Rattle.plant.specs.Lasting.{Open}
 use Rattle.plant.proofs.Assignments.{largest_open}
 use Rattle.plant.proofs.Bits.{bit_beyond}
 use Rattle.plant.proofs.Bounded.{decides_itself, false_when_not}
-use Rattle.plant.proofs.Sizes.{few_states, few_settings}
 use Rattle.plant.specs.Bits.{bit}
 use Rattle.rules.specs.Listing.{rules_of}
 use Rattle.rules.specs.declared.Rule.{Rule}
-use Rattle.draft.specs.Outcome.{Answered, Filled, WentThrough, TurnedAway}
+use Rattle.draft.specs.Outcome.{Filled, WentThrough, TurnedAway}
 use Rattle.draft.proofs.Places.{few_places}
-use Rattle.draft.specs.Rows.{rows_of, open_in, places_needed}
+use Rattle.draft.specs.Rows.{open_in}
 use Rattle.draft.specs.Starts.{Lost}
 use Rattle.draft.specs.Writing.{Wrote}
 use Rattle.draft.specs.declared.fault.DraftFault.{DraftFault}
@@ -28,13 +27,13 @@ use Rattle.plan.specs.Sound.{plan_within}
 use Rattle.plan.specs.declared.fault.PlanFault.{PlanFault}
 use Rattle.plan.specs.declared.fault.PlanFault.TheVariants.{Bytes, HeadMisplaced, SizeLimits, TooManyClauses, Malformed, Loop, Clash, Memory}
 use Rattle.sheet_call.specs.Faults.{sheet_refusal}
-use Rattle.sheet_call.specs.Making.{Made, refused, text_of_refusal, or_else, lowest, lost_start, drafted, with_rows, sheet_of_plan, sheet_of}
+use Rattle.sheet_call.specs.Making.{refused, text_of_refusal, or_else, lowest, lost_start, drafted, with_rows, sheet_of_plan, sheet_of}
 use Rattle.sheet_call.specs.Outcome.{Lent, lent, onto, written, answered, NoMemory, ShowsOpen, DraftedSheet, AsComputed, SheetCall}
 use Rattle.sheet_call.specs.Page.{sheet_text, digit, digit_place}
 use Rattle.sheet_call.proofs.Front.{front_decides}
 use Rattle.sheet_call.proofs.Lengths.{digit_there}
 use Rattle.sheet_call.specs.Room.{text_needed, rows_needed, rules_needed}
-use Rattle.sheet_call.specs.Steps.{FirstRows, PlanDrafted, LinesWritten, Tried}
+use Rattle.sheet_call.specs.Steps.{PlanDrafted, LinesWritten, Tried}
 use Rattle.sheet_call.specs.declared.Sheet.{Sheet}
 use Rattle.sheet_call.specs.declared.fault.SheetFault.{SheetFault}
 use Rattle.sheet_call.specs.declared.fault.SheetFault.TheVariants.{TextLength, RowCount, RulePlaces, Plan, Draft}

@@ -1,5 +1,5 @@
 -- What the steps of a sheet call do, where the memory lent has the right lengths. Assumes nothing.
-use Rattle.std.specs.Prelude.{◌≡◌, ℕ, ◌<◌, ◌≤◌, List, ◌++◌, length, take, drop, Ok, Err, Result, ◌≢◌}
+use Rattle.std.specs.Prelude.{◌≡◌, ℕ, ◌<◌, ◌≤◌, List, ◌++◌, take, drop, Ok, Err, Result, ◌≢◌}
 use Rattle.plant.specs.Meaning.{Meaning, states, settings}
 use Rattle.rules.specs.declared.Rule.{Rule}
 use Rattle.draft.specs.Outcome.{Answered}

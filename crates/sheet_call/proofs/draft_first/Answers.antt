@@ -1,4 +1,4 @@
-use Rattle.std.proofs.Common.{◌≡◌, ◌-◌, List, ◌++◌, length, take, drop, sym, ap, ◌∙◌, subst, arith}
+use Rattle.std.proofs.Common.{◌≡◌, ◌-◌, ◌++◌, length, take, drop, sym, ap, ◌∙◌, subst, arith}
 use Rattle.plant.specs.Meaning.{states}
 use Rattle.std.proofs.lemmas.List.{take_at, length-take-le}
 use Rattle.draft.specs.Outcome.{Answered}

@@ -1,5 +1,5 @@
-use Rattle.std.proofs.Common.{◌≡◌, ℕ, ◌-◌, ◌≤◌, length, take, refl, arith, rules}
-use Rattle.plant.specs.Meaning.{Meaning, Within, states, settings}
+use Rattle.std.proofs.Common.{◌-◌, refl, arith, rules}
+use Rattle.plant.specs.Meaning.{Meaning, Within}
 use Rattle.plant.proofs.Sizes.{few_states, few_settings}
 use Rattle.std.proofs.lemmas.List.{length-take-le}
 use Rattle.plan.specs.Held.{parts_of}

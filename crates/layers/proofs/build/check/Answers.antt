@@ -1,4 +1,4 @@
-use Rattle.std.proofs.Common.{◌≡◌, refl, subst, rules}
+use Rattle.std.proofs.Common.{subst, rules}
 use Rattle.layers.specs.Bans.{AllWithin}
 use Rattle.layers.proofs.Bans.{banned_words}
 use Rattle.layers.proofs.Stacked.{over_bans}

@@ -1,10 +1,9 @@
-use Rattle.std.proofs.Common.{◌≡◌, pred, ◌+◌, ◌≤◌, length, Ok, Err, Result, sym, refl, ap, ◌∙◌, subst, arith}
+use Rattle.std.proofs.Common.{◌≡◌, pred, ◌+◌, length, Ok, Err, sym, refl, ap, ◌∙◌, subst, arith}
 use Rattle.std.proofs.lemmas.Result.{err_from_is_err_and}
-use Rattle.reader.specs.Step.{answer, after}
+use Rattle.reader.specs.Step.{answer}
 use Rattle.log_file.specs.Outcome.{EntryInWords}
-use Rattle.log_file.specs.Running.{Progress, Ends, run_from}
-use Rattle.log_file.specs.declared.fault.LogFileFault.{LogFileFault}
-use Rattle.log_file.specs.declared.fault.LogFileFault.TheVariants.{Bytes, Refused}
+use Rattle.log_file.specs.Running.{run_from}
+use Rattle.log_file.specs.declared.fault.LogFileFault.TheVariants.{Refused}
 use Rattle.log_file.proofs.Entries.{entry_words}
 use Rattle.log_file.proofs.Steps.{at_fault, at_end, at_refused, at_taken, call_some, made_err, made_ok, left_alone}
 use Rattle.log_file.proofs.Words.{ran}

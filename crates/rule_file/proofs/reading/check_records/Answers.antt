@@ -1,11 +1,8 @@
-use Rattle.std.proofs.Common.{◌≡◌, pred, ◌<◌, ◌≤◌, [], ◌∷◌, ◌++◌, length, Some, Ok, Err, sym, refl, ap, ◌∙◌, arith}
+use Rattle.std.proofs.Common.{pred, ◌<◌, ◌≤◌, [], ◌∷◌, ◌++◌, length, Some, Ok, Err, sym, refl, ap, ◌∙◌, arith}
 use Rattle.std.proofs.lemmas.List.{length_push}
 use Rattle.std.proofs.lemmas.Result.{err_from_is_err_and}
-use Rattle.std.proofs.lemmas.Bool.{not-true}
-use Rattle.records.specs.declared.BytesFault.TheVariants.{AfterEnd}
 use Rattle.records.proofs.Finding.{ended_err, ended_ok}
 use Rattle.rule_file.specs.Reading.{rule_at, counted, stands_next}
-use Rattle.rule_file.specs.Order.{last_rule}
 use Rattle.rule_file.specs.declared.fault.RuleFileFault.TheVariants.{Bytes}
 use Rattle.rule_file.proofs.Steps.{other_found, at_fault, at_more_bytes, at_end, at_misplaced, at_full, at_rule, last_push}
 use Rattle.rule_file.proofs.reading.check_records.Goals as goal

@@ -1,9 +1,6 @@
-use Rattle.std.proofs.Common.{◌≡◌, true, Ok, Err, Result, sym, ap, ◌∙◌, subst}
+use Rattle.std.proofs.Common.{Ok, Err, sym, ap, ◌∙◌, subst}
 use Rattle.std.proofs.lemmas.Result.{err_from_is_err_and}
-use Rattle.rules.specs.declared.Rule.{Rule}
-use Rattle.plant.specs.Sizes.{sizes_fit}
 use Rattle.rule_file.specs.Outcome.{Read}
-use Rattle.rule_file.specs.declared.fault.RuleFileFault.{RuleFileFault}
 use Rattle.rule_file.proofs.Outcomes.{read_refused, read_counted}
 use Rattle.rule_file.proofs.reading.read_into.Goals as goal
 

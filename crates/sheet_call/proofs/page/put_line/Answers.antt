@@ -1,4 +1,4 @@
-use Rattle.std.proofs.Common.{◌++◌, length, codes, decimal, subst, append_assoc, arith}
+use Rattle.std.proofs.Common.{◌++◌, codes, decimal, subst, append_assoc, arith}
 use Rattle.std.proofs.lemmas.List.{length-append}
 use Rattle.plant.specs.Bits.{bit}
 use Rattle.draft.specs.Writing.{Wrote}

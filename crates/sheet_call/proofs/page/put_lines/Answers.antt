@@ -1,5 +1,4 @@
-use Rattle.std.proofs.Common.{◌^◌, ◌<◌, length, arith}
-use Rattle.plant.specs.Meaning.{most_bits}
+use Rattle.std.proofs.Common.{arith}
 use Rattle.draft.specs.Rows.{open_in}
 use Rattle.draft.proofs.Writing.{wrote_next}
 use Rattle.sheet_call.specs.Page.{state_line}

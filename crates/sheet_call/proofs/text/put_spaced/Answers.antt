@@ -1,4 +1,4 @@
-use Rattle.std.proofs.Common.{length, arith}
+use Rattle.std.proofs.Common.{arith}
 use Rattle.draft.proofs.Writing.{wrote_more}
 use Rattle.sheet_call.proofs.text.put_spaced.Goals as goal
 
