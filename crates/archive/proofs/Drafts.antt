@@ -1,12 +1,11 @@
 -- The draft of a plant, written as a rule file. Assumes nothing.
-use Rattle.std.proofs.Common.{◌≡◌, ℕ, ◌-◌, ◌<◌, ◌≤◌, List, ◌++◌, length, take, drop, Ok, Err, Result, sym, refl, ap, ◌∙◌, subst, ⊎_elim, arith}
+use Rattle.std.proofs.Common.{◌≡◌, ℕ, ◌-◌, List, ◌++◌, length, take, drop, Ok, Err, sym, refl, ap, ◌∙◌, subst, ⊎_elim, arith}
 use Rattle.std.proofs.lemmas.List.{take_at}
 use Rattle.std.proofs.lemmas.Bool.{cases_lt}
 use Rattle.plant.specs.Meaning.{Meaning}
 use Rattle.rules.specs.Listing.{rules_of}
 use Rattle.rules.specs.declared.Rule.{Rule}
 use Rattle.draft.specs.Outcome.{Answered, WentThrough}
-use Rattle.draft.specs.Rows.{rows_of}
 use Rattle.draft.specs.Starts.{Lost}
 use Rattle.draft.specs.declared.fault.DraftFault.{DraftFault}
 use Rattle.draft.specs.declared.fault.DraftFault.TheVariants.{RowCount, RulePlaces, LostStart}

@@ -1,10 +1,10 @@
 -- A run with faithful rules is right. Assumes nothing.
-use Rattle.std.proofs.Common.{◌≡◌, ℕ, true, false, List, [], ◌∷◌, ◌++◌, length, replicate, is_ok, Ok, Err, Result, sym, refl, ap, ◌∙◌, subst, arith}
+use Rattle.std.proofs.Common.{◌≡◌, ℕ, List, [], ◌∷◌, ◌++◌, length, replicate, is_ok, Ok, Err, Result, sym, refl, ap, ◌∙◌, subst}
 use Rattle.std.proofs.lemmas.Bool.{both_ways}
 use Rattle.plant.specs.Meaning.{Meaning, Within}
 use Rattle.rules.specs.declared.Rule.{Rule}
 use Rattle.reader.specs.Law.{taken_calls, told_from, told, Permitted}
-use Rattle.reader.specs.Step.{Answer, answer, after}
+use Rattle.reader.specs.Step.{answer, after}
 use Rattle.reader.specs.Strings.{Faithful, answers, phase_after, happened, session}
 use Rattle.reader.specs.declared.call.Call.{Call}
 use Rattle.reader.specs.declared.fault.LogFault.{LogFault}

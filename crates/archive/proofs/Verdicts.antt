@@ -1,14 +1,12 @@
 -- Verdicts by rule files, and by the rule file of a draft. Assumes nothing.
-use Rattle.std.proofs.Common.{◌≡◌, ℕ, ◌-◌, ◌*◌, ◌^◌, ◌<◌, ◌≤◌, List, [], ◌∷◌, ◌++◌, length, take, drop, Ok, Err, Result, sym, refl, ap, ◌∙◌, subst, arith}
+use Rattle.std.proofs.Common.{◌≡◌, ℕ, ◌≤◌, List, [], ◌∷◌, ◌++◌, length, take, drop, Ok, Err, Result, sym, refl, ap, ◌∙◌, subst, arith}
 use Rattle.std.proofs.lemmas.List.{length_push, take_at}
-use Rattle.plant.specs.Meaning.{Meaning, Within, states, settings, most_bits, most_lines}
-use Rattle.plant.proofs.Sizes.{few_states, few_settings}
+use Rattle.plant.specs.Meaning.{Meaning, Within, states}
 use Rattle.rules.specs.Limits.{most_rules}
 use Rattle.rules.specs.declared.Rule.{Rule}
 use Rattle.rules.proofs.Listing.{lists_standing, states_length}
-use Rattle.reader.specs.declared.phase.Phase.{Phase}
 use Rattle.reader.specs.declared.phase.Phase.TheVariants.{Closed}
-use Rattle.draft.specs.Rows.{rows_of, places_needed}
+use Rattle.draft.specs.Rows.{rows_of}
 use Rattle.draft.proofs.Largest.{hope_faithful}
 use Rattle.draft.proofs.Places.{few_places}
 use Rattle.rule_file.specs.Encoding.{rules_bytes}
@@ -21,7 +19,6 @@ use Rattle.rule_file.specs.declared.fault.RuleFileFault.TheVariants.{SizeLimits,
 use Rattle.rule_file.proofs.Counting.{few_rules}
 use Rattle.rule_file.proofs.Records.{same_rules}
 use Rattle.log_file.specs.Outcome.{Ran}
-use Rattle.log_file.specs.declared.fault.LogFileFault.{LogFileFault}
 use Rattle.plan.specs.Judging.{judge}
 use Rattle.plan.specs.Machine.{Parts, plan_meaning}
 use Rattle.plan.specs.declared.fault.PlanFault.{PlanFault}
