@@ -39,20 +39,12 @@ pub fn draft_file_by<P: Plant>(plant: &P, file: &mut [u8]) -> Result<usize, Draf
     draft_in(plant, &mut rows, &mut list, file)
 }
 
-// Drafts the plan, and writes its rules to the file.
-fn draft_read(heap: Global, plan: &[u8], file: &mut [u8]) -> Result<usize, DraftFileFault>
-    ensures outcome { RuleFileOf plan.now file.old file.new result }
-    ensures within { IfOk result (λ k. k ≤ length file.new) }
-{
-    let plan = Plan::read(heap, plan)?;
-    draft_file_by(&plan, file)
-}
-
 // Drafts the plan, and writes its rule file to the first bytes lent. The file's length.
 // Where there is none, the bytes are as they were.
 pub fn draft_file(heap: Global, plan: &[u8], file: &mut [u8]) -> Result<usize, DraftFileFault>
     ensures outcome { RuleFileOf plan.now file.old file.new result }
     ensures within { IfOk result (λ k. k ≤ length file.new) }
 {
-    draft_read(heap, plan, file)
+    let plan = Plan::read(heap, plan)?;
+    draft_file_by(&plan, file)
 }

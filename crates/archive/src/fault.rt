@@ -31,6 +31,7 @@ pub enum DraftFileFault {
 
 impl ArchiveFault {
     // Number, place and layer of the fault inside; want of memory has none.
+    // A method and no `From`: of some faults there is no refusal, and one name asks all of them.
     pub fn refusal(&self) -> Option<Refusal>
         ensures { result ≡ archive_refusal self.now }
     {
@@ -43,6 +44,7 @@ impl ArchiveFault {
 
 impl DraftFileFault {
     // Number, place and layer of the fault inside; want of memory has none.
+    // A method and no `From`: of some faults there is no refusal, and one name asks all of them.
     pub fn refusal(&self) -> Option<Refusal>
         ensures { result ≡ draft_file_refusal self.now }
     {
@@ -54,6 +56,7 @@ impl DraftFileFault {
     }
 }
 
+// Written by hand: clauses name what `?` makes of a fault, and a derive gives no such fact.
 impl From<PlanFault> for ArchiveFault {
     ghost from_gives = { λ f r. r ≡ archive.Plan f };
 

@@ -10,7 +10,7 @@ use plan::Plan;
 use plant::Plant;
 use reader::{Phase, Reader};
 use rule_file::{RuleFileFault, read_rules};
-use rules::{MAX_RULES, Rule};
+use rules::{MAX_RULES, Rule, RuledPlant};
 use std::alloc::Global;
 use std::fmt;
 
@@ -45,8 +45,9 @@ fn verdict_in<P: Plant>(
     ensures right { RightByDraft (P.meaning plant.now) rules.now log.now result }
 {
     let count = read_rules(plant.state_bits(), plant.lines(), rules, list)?;
+    let rules = &list[0..count];
     let mut reader = Reader::new();
-    let outcome = run_log(&mut reader, plant, &list[0..count], log);
+    let outcome = run_log(&mut reader, &RuledPlant { plant, rules }, log);
     let phase = reader.phase();
     Ok(Verdict { outcome, phase })
 }
@@ -60,20 +61,6 @@ pub fn verdict_by<P: Plant>(plant: &P, rules: &[u8], log: &[u8]) -> Result<Verdi
     verdict_in(plant, &mut list, rules, log)
 }
 
-// The verdict on a log by a plan and a rule file, read one after the other.
-fn verdict_read(
-    heap: Global,
-    plan: &[u8],
-    rules: &[u8],
-    log: &[u8],
-) -> Result<Verdict, ArchiveFault>
-    ensures outcome { Archived plan.now rules.now log.now result }
-    ensures chain { WholeChain plan.now rules.now log.now result }
-{
-    let plan = Plan::read(heap, plan)?;
-    Ok(verdict_by(&plan, rules, log)?)
-}
-
 // The verdict on a log by a plan and a rule file: from the bytes that were stored to whether each call was permitted.
 pub fn verdict_on(
     heap: Global,
@@ -84,5 +71,6 @@ pub fn verdict_on(
     ensures outcome { Archived plan.now rules.now log.now result }
     ensures chain { WholeChain plan.now rules.now log.now result }
 {
-    verdict_read(heap, plan, rules, log)
+    let plan = Plan::read(heap, plan)?;
+    Ok(verdict_by(&plan, rules, log)?)
 }

@@ -10,35 +10,30 @@ mod tests {
     use records::BytesFault;
     use rule_file::{RuleFileFault, read_rules, write_rules};
     use rules::{MAX_RULES, Rule};
-    use std::alloc::Global;
+    use samples::rule;
     use std::process::Abort;
+    use std::test::Fail;
+    use worked::brake_plan;
 
-    // Two state bits and a line; the brake plan.
-    const PLAN: [u8; 59] = [
-        1, 2, 1, 0, 2, 1, 0, 3, 1, 1, 0, 0, 0, 4, 0, 0, 0, 0, 3, 1, 0, 0, 0, 0, 0, 0, 0, 0, 4, 3,
-        0, 0, 0, 0, 0, 4, 0, 0, 0, 0, 5, 0, 0, 0, 6, 0, 0, 0, 0, 5, 0, 0, 0, 1, 0, 0, 0, 4, 15,
-    ];
-
-    // Its rules: the line is on in state 1 and off in state 2.
+    // The rules of the brake plan: the line is on in state 1 and off in state 2.
     const RULES: [u8; 11] = [0x21, 1, 0, 0, 1, 0x21, 2, 0, 0, 0, 0x2F];
 
     // Begin 1, set 1, see 2, close.
     const LOG: [u8; 8] = [0x31, 1, 0x32, 1, 0x33, 2, 0x34, 0x3F];
 
-    fn rule(state: u8, value: bool) -> Rule {
-        Rule {
-            state,
-            line: 0,
-            prefix: 0,
-            value,
-        }
-    }
+    // A rule that stands in the memory before a call.
+    const HELD: Rule = Rule {
+        state: 9,
+        line: 0,
+        prefix: 0,
+        value: true,
+    };
 
     // Reads into three places that hold another rule, and says whether a refusal left them alone.
     fn expect_refused(rt: &impl Abort, bytes: &[u8], want: RuleFileFault) {
-        let mut list = [rule(9, true); 3];
+        let mut list = [HELD; 3];
         assert_eq!(rt; read_rules(2, 1, bytes, &mut list), Err(want));
-        assert_eq!(rt; list, [rule(9, true); 3]);
+        assert_eq!(rt; list, [HELD; 3]);
     }
 
     fn unknown_rule(offset: usize) -> RuleFileFault {
@@ -88,9 +83,9 @@ mod tests {
             Err(RuleFileFault::ListFull { offset: 0 })
         );
         assert_eq!(rt; read_rules(2, 1, &[0x2F], &mut none), Ok(0));
-        let mut three = [rule(9, true); 3];
+        let mut three = [HELD; 3];
         assert_eq!(rt; read_rules(2, 1, &RULES, &mut three), Ok(2));
-        assert_eq!(rt; three, [rule(1, true), rule(2, false), rule(9, true)]);
+        assert_eq!(rt; three, [rule(1, 0, 0, true), rule(2, 0, 0, false), HELD]);
     }
 
     #[test]
@@ -117,70 +112,62 @@ mod tests {
     }
 
     // A rule for every state, line and prefix that there can be.
-    fn all_rules(list: &mut [Rule]) -> usize {
-        let mut count = 0;
+    fn all_rules<R: AllocGlobal>(rt: &R) -> Result<Vec<Rule>, Fail> {
+        let mut list = Vec::new(rt.alloc());
         for state in 0..=255 {
             for line in 0..4 {
                 for prefix in 0..1u8 << line {
-                    if count < list.len() {
-                        list[count] = Rule {
-                            state,
-                            line,
-                            prefix,
-                            value: true,
-                        };
-                        count += 1;
-                    }
+                    list.push(rule(state, line, prefix, true))?;
                 }
             }
         }
-        count
+        Ok(list)
     }
 
     #[test]
-    fn as_many_rules_as_there_can_be(rt: HostRuntime) {
-        let mut list = [Rule::default(); MAX_RULES];
-        assert_eq!(rt; all_rules(&mut list), 3840);
+    fn as_many_rules_as_there_can_be(rt: HostRuntime) -> Result<(), Fail> {
+        let list = all_rules(&rt)?;
+        assert_eq!(rt; list.len(), 3840);
         let mut file = [7; 19201];
         assert_eq!(rt;
-            write_rules(&list, &mut file[0..19200]),
+            write_rules(list.as_slice(), &mut file[0..19200]),
             Err(RuleFileFault::FileRoom { needed: 19201 })
         );
         assert_eq!(rt; file[0], 7);
-        assert_eq!(rt; write_rules(&list, &mut file), Ok(19201));
+        assert_eq!(rt; write_rules(list.as_slice(), &mut file), Ok(19201));
         let mut back = [Rule::default(); MAX_RULES];
         assert_eq!(rt; read_rules(8, 4, &file, &mut back), Ok(3840));
-        assert!(rt; back == list);
+        assert!(rt; back.as_slice() == list.as_slice());
         assert_eq!(rt;
             read_rules(8, 4, &file, &mut back[0..3839]),
             Err(RuleFileFault::ListFull { offset: 19195 })
         );
+        Ok(())
     }
 
     #[test]
     fn rule_file_of_the_plan(rt: HostRuntime) {
         let mut file = [7; 12];
-        assert_eq!(rt; draft_file(rt.alloc(), &PLAN, &mut file), Ok(11));
+        assert_eq!(rt; draft_file(rt.alloc(), &brake_plan(), &mut file), Ok(11));
         assert!(rt; file[0..11] == RULES[0..11]);
         assert_eq!(rt; file[11], 7);
         let mut short = [7; 10];
         let room = RuleFileFault::FileRoom { needed: 11 };
         assert_eq!(rt;
-            draft_file(rt.alloc(), &PLAN, &mut short),
+            draft_file(rt.alloc(), &brake_plan(), &mut short),
             Err(DraftFileFault::Rules(room))
         );
         assert_eq!(rt; short, [7; 10]);
     }
 
-    fn expect_verdict(
-        rt: &impl Abort,
-        heap: Global,
+    fn expect_verdict<R: Abort + AllocGlobal>(
+        rt: &R,
         log: &[u8],
         outcome: Result<usize, LogFileFault>,
         phase: Phase,
     ) {
         assert_eq!(rt;
-            verdict_on(heap, &PLAN, &RULES, log),
+            verdict_on(rt.alloc(), &brake_plan(), &RULES, log),
             Ok(Verdict { outcome, phase })
         );
     }
@@ -210,9 +197,9 @@ mod tests {
                 },
                 _ => LogFileFault::Bytes(BytesFault::UnknownKind { offset: i }),
             };
-            expect_verdict(&rt, rt.alloc(), &log, Err(fault), phase_at(i));
+            expect_verdict(&rt, &log, Err(fault), phase_at(i));
         }
-        expect_verdict(&rt, rt.alloc(), &LOG, Ok(4), Phase::Closed);
+        expect_verdict(&rt, &LOG, Ok(4), Phase::Closed);
     }
 
     #[test]
@@ -223,7 +210,7 @@ mod tests {
                 _ => i,
             };
             let fault = LogFileFault::Bytes(BytesFault::Unfinished { offset });
-            expect_verdict(&rt, rt.alloc(), &LOG[0..i], Err(fault), phase_at(i));
+            expect_verdict(&rt, &LOG[0..i], Err(fault), phase_at(i));
         }
     }
 
@@ -235,7 +222,7 @@ mod tests {
             Err(ArchiveFault::Plan(PlanFault::Bytes(empty)))
         );
         assert_eq!(rt;
-            verdict_on(rt.alloc(), &PLAN, &[], &LOG),
+            verdict_on(rt.alloc(), &brake_plan(), &[], &LOG),
             Err(ArchiveFault::Rules(RuleFileFault::Bytes(empty)))
         );
     }

@@ -2,89 +2,90 @@
 #![tactic(auto)]
 
 use archive::{draft_file, verdict_on};
+use files::MAX_RULE_FILE;
 use rule_file::read_rules;
-use rules::{MAX_RULES, Rule};
+use rules::Rule;
 use std::alloc::{AllocError, Global};
-use std::fs;
+use std::fmt::Display;
+use std::{fmt, fs};
+use tally::count_agreed;
 
-// Five bytes for each rule that there can be, and one for the end.
-const FILE_LENGTH: usize = 5 * MAX_RULES + 1;
-
-// How many answers there are, and how many agree.
+// A list of rules as it is stored: the number of rules, and then each by its parts.
 #[derive(Clone, Copy)]
-struct Tally {
-    agreed: u32,
-    all: u32,
-}
+struct Listed<'a>(&'a [Rule]);
 
-impl Tally {
-    fn count(&mut self, agrees: bool) {
-        self.all = self.all.saturating_add(1);
-        if agrees {
-            self.agreed = self.agreed.saturating_add(1);
+impl fmt::Display for Listed<'_> {
+    fn fmt<W: fmt::Write>(&self, f: &mut fmt::Formatter<W>) -> fmt::Result {
+        write!(f, "{}", self.0.len())?;
+        for rule in self.0 {
+            let value = u8::from(rule.value);
+            write!(f, "; {} {} {} {value}", rule.state, rule.line, rule.prefix)?;
         }
+        Ok(())
     }
 }
 
-// The number of rules, and then each by its parts.
-fn show_rules(heap: Global, rules: &[Rule], count: usize) -> Result<String, AllocError> {
-    let mut text = format!(in heap; "{count}")?;
-    for rule in rules.iter().take(count) {
-        let state = rule.state;
-        let line = rule.line;
-        let prefix = rule.prefix;
-        let value = u8::from(rule.value);
-        let one = format!(in heap; "; {state} {line} {prefix} {value}")?;
-        text.push_str(one.as_str())?;
-    }
-    Ok(text)
+// Whether what is found reads as what is stored.
+fn reads_as<D: Display + Drop>(heap: Global, found: D, want: &str) -> Result<bool, AllocError> {
+    let text = format!(in heap; "{found}")?;
+    Ok(text.as_str() == want)
 }
 
-// What reading a rule file comes to, as a line of text.
-fn read_as_text(
-    heap: Global,
-    bits: u32,
-    lines: u32,
-    places: usize,
-    bytes: &[u8],
-) -> Result<String, AllocError> {
-    let mut list = vec![in heap; Rule::default(); places]?;
-    match read_rules(bits, lines, bytes, &mut list) {
-        Ok(count) => show_rules(heap, list.as_slice(), count),
-        Err(fault) => {
-            let refusal = fault.refusal();
-            format!(in heap; "{refusal}")
-        }
-    }
+// The bytes of the stored file with this name and ending.
+// Each program has its own: a public function needs a contract, and none can say what a file holds.
+fn stored(rt: &HostRuntime, name: &str, ending: &str) -> anyhow::Result<Vec<u8>> {
+    let path = format!(in rt.alloc(); "{name}.{ending}")?;
+    Ok(fs::read(rt, path.as_str())?)
 }
 
 // A line of the list of rule files: name, state bits, lines, places, and what is expected.
-fn check_rule_file(rt: &HostRuntime, line: &str) -> anyhow::Result<bool> {
-    let heap = rt.alloc();
-    let mut words = line.splitn(5, ' ');
-    let (Some(name), Some(bits), Some(lines), Some(places), Some(want)) = (
-        words.next(),
-        words.next(),
-        words.next(),
-        words.next(),
-        words.next(),
-    ) else {
-        return Ok(false);
-    };
-    let path = format!(in heap; "{name}.rules")?;
-    let bytes = fs::read(rt, path.as_str())?;
-    let bits = bits.parse::<u32>()?;
-    let lines = lines.parse::<u32>()?;
-    let places = places.parse::<usize>()?;
-    let found = read_as_text(heap, bits, lines, places, bytes.as_slice())?;
-    Ok(found.as_str() == want)
+#[derive(Clone, Copy)]
+struct RuleFileCase<'a> {
+    name: &'a str,
+    bits: u32,
+    lines: u32,
+    places: usize,
+    want: &'a str,
 }
 
-// Whether the file that was written is the stored one.
-fn is_stored(rt: &HostRuntime, name: &str, written: &[u8]) -> anyhow::Result<bool> {
-    let path = format!(in rt.alloc(); "{name}.rules")?;
-    let stored = fs::read(rt, path.as_str())?;
-    Ok(stored.as_slice() == written)
+impl<'a> RuleFileCase<'a> {
+    // None where the line has too few words.
+    fn of_line(line: &'a str) -> anyhow::Result<Option<RuleFileCase<'a>>> {
+        let mut words = line.splitn(5, ' ');
+        let (Some(name), Some(bits), Some(lines), Some(places), Some(want)) = (
+            words.next(),
+            words.next(),
+            words.next(),
+            words.next(),
+            words.next(),
+        ) else {
+            return Ok(None);
+        };
+        Ok(Some(RuleFileCase {
+            name,
+            bits: bits.parse()?,
+            lines: lines.parse()?,
+            places: places.parse()?,
+            want,
+        }))
+    }
+
+    // Whether reading the bytes comes to what is expected.
+    fn agrees(&self, heap: Global, bytes: &[u8]) -> Result<bool, AllocError> {
+        let mut list = vec![in heap; Rule::default(); self.places]?;
+        match read_rules(self.bits, self.lines, bytes, &mut list) {
+            Ok(count) => reads_as(heap, Listed(&list[..count]), self.want),
+            Err(fault) => reads_as(heap, fault.refusal(), self.want),
+        }
+    }
+}
+
+fn check_rule_file(rt: &HostRuntime, line: &str) -> anyhow::Result<bool> {
+    let Some(case) = RuleFileCase::of_line(line)? else {
+        return Ok(false);
+    };
+    let bytes = stored(rt, case.name, "rules")?;
+    Ok(case.agrees(rt.alloc(), bytes.as_slice())?)
 }
 
 // A line of the list of plans: name, and what becomes of its draft.
@@ -93,19 +94,15 @@ fn check_draft(rt: &HostRuntime, line: &str) -> anyhow::Result<bool> {
     let Some((name, want)) = line.split_once(' ') else {
         return Ok(false);
     };
-    let path = format!(in heap; "{name}.plan")?;
-    let plan = fs::read(rt, path.as_str())?;
-    let mut file = [0; FILE_LENGTH];
+    let plan = stored(rt, name, "plan")?;
+    let mut file = [0; MAX_RULE_FILE];
     match draft_file(heap, plan.as_slice(), &mut file) {
         Ok(length) => {
             let found = format!(in heap; "written {length}")?;
-            Ok(found.as_str() == want && is_stored(rt, name, &file[0..length])?)
+            Ok(found.as_str() == want && stored(rt, name, "rules")?.as_slice() == &file[..length])
         }
         Err(fault) => match fault.refusal() {
-            Some(refusal) => {
-                let found = format!(in heap; "{refusal}")?;
-                Ok(found.as_str() == want)
-            }
+            Some(refusal) => Ok(reads_as(heap, refusal, want)?),
             None => Ok(false),
         },
     }
@@ -120,59 +117,32 @@ fn check_log(rt: &HostRuntime, line: &str) -> anyhow::Result<bool> {
     let Some((stem, _)) = name.split_once('-') else {
         return Ok(false);
     };
-    let plan_path = format!(in heap; "{stem}.plan")?;
-    let rules_path = format!(in heap; "{stem}.rules")?;
-    let log_path = format!(in heap; "{name}.log")?;
-    let plan = fs::read(rt, plan_path.as_str())?;
-    let rules = fs::read(rt, rules_path.as_str())?;
-    let log = fs::read(rt, log_path.as_str())?;
+    let plan = stored(rt, stem, "plan")?;
+    let rules = stored(rt, stem, "rules")?;
+    let log = stored(rt, name, "log")?;
     match verdict_on(heap, plan.as_slice(), rules.as_slice(), log.as_slice()) {
-        Ok(verdict) => {
-            let found = format!(in heap; "{verdict}")?;
-            Ok(found.as_str() == want)
-        }
+        Ok(verdict) => Ok(reads_as(heap, verdict, want)?),
         Err(_) => Ok(false),
     }
 }
 
-fn check_rule_files(rt: &HostRuntime) -> anyhow::Result<()> {
-    let mut tally = Tally { agreed: 0, all: 0 };
-    let list = fs::read_to_string(rt, "rulefiles.txt")?;
-    for line in list.as_str().lines() {
-        tally.count(check_rule_file(rt, line)?);
-    }
-    let agreed = tally.agreed;
-    let all = tally.all;
-    println!(rt; "{agreed} of {all} rule files agreed")?;
-    Ok(())
-}
-
-fn check_drafts(rt: &HostRuntime) -> anyhow::Result<()> {
-    let mut tally = Tally { agreed: 0, all: 0 };
-    let list = fs::read_to_string(rt, "plans.txt")?;
-    for line in list.as_str().lines() {
-        tally.count(check_draft(rt, line)?);
-    }
-    let agreed = tally.agreed;
-    let all = tally.all;
-    println!(rt; "{agreed} of {all} drafts agreed")?;
-    Ok(())
-}
-
-fn check_logs(rt: &HostRuntime) -> anyhow::Result<()> {
-    let mut tally = Tally { agreed: 0, all: 0 };
-    let list = fs::read_to_string(rt, "logs.txt")?;
-    for line in list.as_str().lines() {
-        tally.count(check_log(rt, line)?);
-    }
-    let agreed = tally.agreed;
-    let all = tally.all;
-    println!(rt; "{agreed} of {all} logs agreed")?;
+// Checks each line of a list, and prints how many agreed.
+fn check_all<F: Fn(&HostRuntime, &str) -> anyhow::Result<bool> + Drop>(
+    rt: &HostRuntime,
+    list: &str,
+    what: &str,
+    agrees: F,
+) -> anyhow::Result<()>
+    requires { F.IsAlwaysCallable agrees }
+{
+    let list = fs::read_to_string(rt, list)?;
+    let tally = count_agreed(list.as_str().lines(), |line| agrees(rt, line))?;
+    println!(rt; "{tally} {what} agreed")?;
     Ok(())
 }
 
 fn main(rt: HostRuntime) -> anyhow::Result<()> {
-    check_rule_files(&rt)?;
-    check_drafts(&rt)?;
-    check_logs(&rt)
+    check_all(&rt, "rulefiles.txt", "rule files", check_rule_file)?;
+    check_all(&rt, "plans.txt", "drafts", check_draft)?;
+    check_all(&rt, "logs.txt", "logs", check_log)
 }

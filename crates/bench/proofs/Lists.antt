@@ -1,7 +1,7 @@
 -- Tests over lists, in words. Assumes nothing.
 use Rattle.std.proofs.Common.{◌≡◌, ℕ, true, eqb, List, Decides, sym, refl, ap}
 use Rattle.std.proofs.lemmas.Bool.{and_from, and_parts, eqb-true, eq-eqb}
-use Rattle.plant.specs.Tests.{some_of}
+use Rattle.std.specs.List.{list_any}
 use Rattle.plant.proofs.Tests.{some_decides, one_decides}
 use Rattle.bench.specs.Table.{leaves, goes, table_meaning, TableWords}
 use Rattle.bench.specs.declared.entry.Move.{Move}
@@ -22,7 +22,7 @@ move_test s a t v = (
     same_move v p q r = λ i. record { from = p i; setting = q i; to = r i }
 
 -- a pair has a move where some state follows it
-safe_words : (s a : ℕ) (moves : List Move) → Decides (some_of (leaves s a) moves) ((t : ℕ) × (some_of (goes s a t) moves ≡ true))
+safe_words : (s a : ℕ) (moves : List Move) → Decides (list_any (leaves s a) moves) ((t : ℕ) × (list_any (goes s a t) moves ≡ true))
 safe_words s a moves = (
   λ e.
       let w = (some_decides (leaves s a) moves).0 e in

@@ -2,13 +2,14 @@
 use Rattle.std.specs.Prelude.{◌≡◌, ℕ, ◌^◌, Bool, true, ◌&&◌, List, Decides, ◌==◌, nat_eq}
 use mathlib.Core.List.{Memᴰ}
 use Rattle.plant.specs.Meaning.{Meaning}
-use Rattle.bench.specs.Entries.{sizes_fit, start_fits, move_fits}
-use Rattle.plant.specs.Tests.{all_of, some_of}
+use Rattle.bench.specs.Entries.{start_fits, move_fits}
+use Rattle.plant.specs.Sizes.{sizes_fit}
+use Rattle.std.specs.List.{list_all, list_any}
 use Rattle.bench.specs.declared.entry.Move.{Move}
 
 -- the sizes are within their limits, and every entry within the sizes
 abbrev pub table_fits : ℕ → ℕ → List ℕ → List Move → Bool
-table_fits b n starts moves = sizes_fit b n && (all_of (start_fits (2 ^ b) (2 ^ n)) starts && all_of (move_fits (2 ^ b) (2 ^ n)) moves)
+table_fits b n starts moves = sizes_fit b n && (list_all (start_fits (2 ^ b) (2 ^ n)) starts && list_all (move_fits (2 ^ b) (2 ^ n)) moves)
 
 -- whether the move goes from state s by setting a
 abbrev pub leaves : ℕ → ℕ → Move → Bool
@@ -23,9 +24,9 @@ abbrev pub table_meaning : ℕ → ℕ → List ℕ → List Move → Meaning
 table_meaning b n starts moves = record {
   bits = b;
   lines = n;
-  start = λ t. some_of (nat_eq t) starts;
-  safe = λ s a. some_of (leaves s a) moves;
-  follows = λ s a t. some_of (goes s a t) moves;
+  start = λ t. list_any (nat_eq t) starts;
+  safe = λ s a. list_any (leaves s a) moves;
+  follows = λ s a t. list_any (goes s a t) moves;
 }
 
 -- the same in words

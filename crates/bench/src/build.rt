@@ -1,21 +1,15 @@
 // Making a bench table from its lists.
 ghost use Rattle.std.specs.Prelude.{◌≡◌};
-ghost use Rattle.bench.specs.Entries.{sizes_fit};
 ghost use Rattle.bench.specs.Outcome.{Built};
 
 use crate::entry::{Move, first_misfit};
 use crate::fault::TableFault;
 use crate::table::BenchTable;
-use plant::{MAX_LINES, MAX_STATE_BITS};
-
-fn sizes_fit(state_bits: u32, lines: u32) -> bool
-    ensures { result ≡ sizes_fit state_bits lines }
-{
-    (1 <= state_bits && state_bits <= MAX_STATE_BITS) && (1 <= lines && lines <= MAX_LINES)
-}
+use plant::Sizes;
 
 impl BenchTable {
     // The table of these starts and moves; a size out of its limits is refused first, then the first entry beyond the sizes.
+    // Two numbers and no `Sizes`, since sizes out of their limits are one of the refusals.
     pub fn new(
         state_bits: u32,
         lines: u32,
@@ -24,21 +18,18 @@ impl BenchTable {
     ) -> Result<BenchTable, TableFault>
         ensures { Built state_bits lines starts.items moves.items result }
     {
-        if !sizes_fit(state_bits, lines) {
+        let Some(sizes) = Sizes::new(state_bits, lines) else {
             return Err(TableFault::SizeLimits);
-        }
-        let states = 1 << state_bits;
-        let settings = 1 << lines;
-        if let Some(index) = first_misfit(starts.as_slice(), states, settings) {
+        };
+        if let Some(index) = first_misfit(&starts, sizes) {
             return Err(TableFault::EntryBeyond { index });
         }
-        if let Some(index) = first_misfit(moves.as_slice(), states, settings) {
+        if let Some(index) = first_misfit(&moves, sizes) {
             let index = starts.len() + index;
             return Err(TableFault::EntryBeyond { index });
         }
         Ok(BenchTable {
-            state_bits,
-            lines,
+            sizes,
             starts,
             moves,
         })

@@ -14,6 +14,7 @@ pub enum TableFault {
 
 impl TableFault {
     // The fault's number, place and layer.
+    // A method and no `From`: of some faults there is no refusal, and one name asks all of them.
     pub fn refusal(&self) -> Refusal
         ensures { result ≡ table_refusal self.now }
     {

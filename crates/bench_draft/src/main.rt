@@ -5,6 +5,7 @@ use bench::{BenchTable, Move};
 use draft::draft;
 use plant::Row;
 use rules::Rule;
+use samples::{step, table_of};
 use std::io;
 
 // Each table has one state bit and one line, and starts in state 0.
@@ -14,42 +15,19 @@ const LINES: u32 = 1;
 
 const START: u32 = 0;
 
-// From state 0 to state 1 and back, with the line off.
-const THERE: Move = Move {
-    from: 0,
-    setting: 0,
-    to: 1,
-};
-
-const BACK: Move = Move {
-    from: 1,
-    setting: 0,
-    to: 0,
-};
-
-fn print_rows(rt: &HostRuntime, rows: &[Row]) -> io::Result<()> {
-    for (state, row) in rows.iter().enumerate() {
-        println!(rt; "row {state}: {row}")?;
-    }
-    Ok(())
-}
-
-fn print_rules(rt: &HostRuntime, rules: &[Rule], count: usize) -> io::Result<()> {
-    for rule in rules.iter().take(count) {
-        println!(rt; "rule: {rule}")?;
-    }
-    Ok(())
-}
-
 // Drafts the table, and prints its rows, its rules and a sentence.
 fn print_draft(rt: &HostRuntime, table: &BenchTable) -> io::Result<()> {
     let mut rows: [Row; 2] = [0; 2];
     let mut rules = [Rule::default(); 2];
     let answer = draft(table, &mut rows, &mut rules);
-    print_rows(rt, &rows)?;
+    for (state, row) in rows.iter().enumerate() {
+        println!(rt; "row {state}: {row}")?;
+    }
     match answer {
         Ok(count) => {
-            print_rules(rt, &rules, count)?;
+            for rule in rules.iter().take(count) {
+                println!(rt; "rule: {rule}")?;
+            }
             println!(rt;
                 "The draft went through: every start can be kept safe for ever, by {count} rules."
             )
@@ -64,10 +42,7 @@ fn print_draft(rt: &HostRuntime, table: &BenchTable) -> io::Result<()> {
 }
 
 fn try_moves(rt: &HostRuntime, moves: &[Move]) -> anyhow::Result<()> {
-    let heap = rt.alloc();
-    let starts = Vec::from_slice(heap, &[START])?;
-    let moves = Vec::from_slice(heap, moves)?;
-    match BenchTable::new(BITS, LINES, starts, moves) {
+    match table_of(rt.alloc(), BITS, LINES, &[START], moves)? {
         Ok(table) => print_draft(rt, &table)?,
         Err(fault) => rt.println(fault.refusal())?,
     }
@@ -75,8 +50,10 @@ fn try_moves(rt: &HostRuntime, moves: &[Move]) -> anyhow::Result<()> {
 }
 
 fn main(rt: HostRuntime) -> anyhow::Result<()> {
+    let there = step(0, 0, 1);
+    let back = step(1, 0, 0);
     println!(rt; "start 0, moves 0 to 1 and 1 to 0 with the line off:")?;
-    try_moves(&rt, &[THERE, BACK])?;
+    try_moves(&rt, &[there, back])?;
     println!(rt; "start 0, only the move 0 to 1 with the line off:")?;
-    try_moves(&rt, &[THERE])
+    try_moves(&rt, &[there])
 }

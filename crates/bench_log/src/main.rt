@@ -1,41 +1,13 @@
 // Drafts a bench table and reads a short session against its rules, call by call.
 #![tactic(auto)]
 
-use bench::{BenchTable, Move};
+use bench::BenchTable;
 use draft::draft;
 use plant::Row;
 use reader::{Call, Reader};
-use rules::Rule;
+use rules::{Rule, RuledPlant};
+use samples::{DETOUR, table_of};
 use std::io;
-
-// Setting 1 of state 0 may lead to state 1. There setting 0 leads to state 2, from which nothing does, and setting 1 back.
-const MOVES: [Move; 5] = [
-    Move {
-        from: 0,
-        setting: 0,
-        to: 0,
-    },
-    Move {
-        from: 0,
-        setting: 1,
-        to: 0,
-    },
-    Move {
-        from: 0,
-        setting: 1,
-        to: 1,
-    },
-    Move {
-        from: 1,
-        setting: 0,
-        to: 2,
-    },
-    Move {
-        from: 1,
-        setting: 1,
-        to: 0,
-    },
-];
 
 const SESSION: [Call; 14] = [
     Call::Set { setting: 0 },
@@ -55,17 +27,14 @@ const SESSION: [Call; 14] = [
 ];
 
 // Reads the session on a new reader, and prints each call, its answer and the phase after it.
-fn print_session(rt: &HostRuntime, table: &BenchTable, rules: &[Rule]) -> io::Result<()> {
+fn print_session(rt: &HostRuntime, ruled: &RuledPlant<'_, BenchTable>) -> io::Result<()> {
     let mut reader = Reader::new();
     for call in SESSION {
-        let answer = reader.make(table, rules, call);
+        let answer = reader.make(ruled, call);
         let phase = reader.phase();
         match answer {
             Ok(()) => println!(rt; "{call}: taken, {phase}")?,
-            Err(fault) => {
-                let refusal = fault.refusal();
-                println!(rt; "{call}: {refusal}, {phase}")?;
-            }
+            Err(fault) => println!(rt; "{call}: {}, {phase}", fault.refusal())?,
         }
     }
     Ok(())
@@ -80,7 +49,14 @@ fn print_reading(rt: &HostRuntime, table: &BenchTable) -> io::Result<()> {
             for rule in rules.iter().take(count) {
                 println!(rt; "rule: {rule}")?;
             }
-            print_session(rt, table, &rules[0..count])?;
+            let rules = &rules[..count];
+            print_session(
+                rt,
+                &RuledPlant {
+                    plant: table,
+                    rules,
+                },
+            )?;
             println!(rt; "Each call was taken exactly when it was permitted.")
         }
         Err(fault) => rt.println(fault.refusal()),
@@ -88,10 +64,7 @@ fn print_reading(rt: &HostRuntime, table: &BenchTable) -> io::Result<()> {
 }
 
 fn main(rt: HostRuntime) -> anyhow::Result<()> {
-    let heap = rt.alloc();
-    let starts = Vec::from_slice(heap, &[0])?;
-    let moves = Vec::from_slice(heap, &MOVES)?;
-    match BenchTable::new(2, 1, starts, moves) {
+    match table_of(rt.alloc(), 2, 1, &[0], &DETOUR)? {
         Ok(table) => print_reading(&rt, &table)?,
         Err(fault) => rt.println(fault.refusal())?,
     }

@@ -2,12 +2,13 @@
 #![tactic(auto)]
 
 use archive::{ArchiveFault, Verdict, verdict_on};
-use log_file::{Entry, entry_at};
+use files::name_failure;
+use log_file::entry_at;
 use plan::Plan;
 use plant::Plant;
-use reader::{Call, LogFault, Reader};
+use reader::{Call, LogFault, Phase, Reader};
 use rule_file::read_rules;
-use rules::{MAX_RULES, Rule};
+use rules::{MAX_RULES, Rule, RuledPlant};
 use std::{env, fs, io};
 
 // The three files that the program is given.
@@ -16,17 +17,6 @@ struct Stored {
     plan: Vec<u8>,
     rules: Vec<u8>,
     log: Vec<u8>,
-}
-
-// Reads a file, and says by name where it can not be read.
-fn read_named(rt: &HostRuntime, path: &str) -> anyhow::Result<Vec<u8>> {
-    match fs::read(rt, path) {
-        Ok(bytes) => Ok(bytes),
-        Err(error) => {
-            println!(rt; "cannot read {path}: {error}")?;
-            Err(error.into())
-        }
-    }
 }
 
 // What is wrong with a call, in plain words.
@@ -40,27 +30,20 @@ fn reason(fault: LogFault) -> &'static str {
     }
 }
 
-// Makes one call and prints a line. Whether it was taken.
-fn print_call<P: Plant>(
+// Prints a line for a call: where it stands, what came of it and the phase after it.
+fn print_call(
     rt: &HostRuntime,
-    reader: &mut Reader,
-    plant: &P,
-    rules: &[Rule],
     offset: usize,
     call: Call,
-) -> io::Result<bool> {
-    match reader.make(plant, rules, call) {
-        Ok(()) => {
-            let phase = reader.phase();
-            println!(rt; "{offset}: {call}: taken, {phase}")?;
-            Ok(true)
-        }
+    answer: Result<(), LogFault>,
+    phase: Phase,
+) -> io::Result<()> {
+    match answer {
+        Ok(()) => println!(rt; "{offset}: {call}: taken, {phase}"),
         Err(fault) => {
             let refusal = fault.refusal();
             let why = reason(fault);
-            let phase = reader.phase();
-            println!(rt; "{offset}: {call}: {refusal}, {why}, {phase}")?;
-            Ok(false)
+            println!(rt; "{offset}: {call}: {refusal}, {why}, {phase}")
         }
     }
 }
@@ -68,20 +51,19 @@ fn print_call<P: Plant>(
 // Prints a line for each call, up to the first that is turned away.
 fn print_calls<P: Plant>(
     rt: &HostRuntime,
-    plant: &P,
-    rules: &[Rule],
+    ruled: &RuledPlant<'_, P>,
     log: &[u8],
 ) -> io::Result<()> {
     let mut reader = Reader::new();
     let mut at = 0;
-    for _ in 0..log.len() {
-        let Ok(Entry::Made { call, end }) = entry_at(log, at) else {
-            break;
-        };
-        if !print_call(rt, &mut reader, plant, rules, at, call)? {
+    // No iterator: where the next record begins is known only when this one was read.
+    while let Ok(Some(made)) = entry_at(log, at) {
+        let answer = reader.make(ruled, made.call);
+        print_call(rt, at, made.call, answer, reader.phase())?;
+        if answer.is_err() {
             break;
         }
-        at = end;
+        at = made.end;
     }
     Ok(())
 }
@@ -92,7 +74,11 @@ fn print_verdict(rt: &HostRuntime, stored: &Stored, verdict: Verdict) -> io::Res
     if let Ok(plan) = Plan::read(rt.alloc(), stored.plan.as_slice()) {
         let rules = stored.rules.as_slice();
         if let Ok(count) = read_rules(plan.state_bits(), plan.lines(), rules, &mut list) {
-            print_calls(rt, &plan, &list[0..count], stored.log.as_slice())?;
+            let ruled = RuledPlant {
+                plant: &plan,
+                rules: &list[..count],
+            };
+            print_calls(rt, &ruled, stored.log.as_slice())?;
         }
     }
     let end = match verdict.outcome {
@@ -102,6 +88,7 @@ fn print_verdict(rt: &HostRuntime, stored: &Stored, verdict: Verdict) -> io::Res
     println!(rt; "verdict: {verdict}: {end}")
 }
 
+// Each program words its own line for a fault, and for want of memory: one function for all would take both as texts.
 fn print_fault(rt: &HostRuntime, fault: ArchiveFault) -> io::Result<()> {
     let what = match fault {
         ArchiveFault::Plan(_) => "the plan",
@@ -114,10 +101,11 @@ fn print_fault(rt: &HostRuntime, fault: ArchiveFault) -> io::Result<()> {
 }
 
 fn judge(rt: &HostRuntime, plan: &str, rules: &str, log: &str) -> anyhow::Result<()> {
+    let read = |path: &str| name_failure(rt, "read", path, fs::read(rt, path));
     let stored = Stored {
-        plan: read_named(rt, plan)?,
-        rules: read_named(rt, rules)?,
-        log: read_named(rt, log)?,
+        plan: read(plan)?,
+        rules: read(rules)?,
+        log: read(log)?,
     };
     let answer = verdict_on(
         rt.alloc(),
@@ -133,8 +121,7 @@ fn judge(rt: &HostRuntime, plan: &str, rules: &str, log: &str) -> anyhow::Result
 }
 
 fn main(rt: HostRuntime) -> anyhow::Result<()> {
-    let mut words = env::args(&rt)?;
-    let _ = words.next();
+    let mut words = env::args(&rt)?.skip(1);
     let (Some(plan), Some(rules), Some(log)) = (words.next(), words.next(), words.next()) else {
         println!(rt; "usage: coach PLAN RULES LOG")?;
         return Ok(());

@@ -2,18 +2,15 @@
 #![tactic(auto)]
 
 use draft::draft;
+use either_stand::Stand;
 use plan::Plan;
 use plant::Row;
-use rules::Rule;
+use reader::Call;
+use rules::{Rule, RuledPlant};
 use stands::{AwaitsSetting, AwaitsSighting, NotTaken};
+use std::fmt::Display;
 use std::io;
-
-// Two state bits and a line; bit 1 is 0 at the start and follows the line; where the line is on, bit 0 is 0 next.
-// Never bit 1 with the line on, and never bit 0 with the line off.
-const BRAKE_PLAN: [u8; 59] = [
-    1, 2, 1, 0, 2, 1, 0, 3, 1, 1, 0, 0, 0, 4, 0, 0, 0, 0, 3, 1, 0, 0, 0, 0, 0, 0, 0, 0, 4, 3, 0, 0,
-    0, 0, 0, 4, 0, 0, 0, 0, 5, 0, 0, 0, 6, 0, 0, 0, 0, 5, 0, 0, 0, 1, 0, 0, 0, 4, 15,
-];
+use worked::brake_plan;
 
 // Worked out by hand, for the stored output: the starts are 0 and 1. In state 1 the line must be on, in state 2 it must be off (two rules);
 // in state 0 both settings fit. Under the line on only state 2 follows, under the line off states 0 and 1.
@@ -53,157 +50,123 @@ const TICKS: [Tick; 4] = [
 ];
 
 // Gives the stand on; where printing failed, the session ends.
-fn keep_poised(printed: io::Result<()>, poised: AwaitsSetting) -> io::Result<AwaitsSetting> {
+fn keep<S: Stand>(printed: io::Result<()>, stand: S) -> io::Result<S> {
     match printed {
-        Ok(()) => Ok(poised),
+        Ok(()) => Ok(stand),
         Err(error) => {
-            poised.close();
+            stand.close();
             Err(error)
         }
     }
 }
 
-// Gives the stand on; where printing failed, the session ends.
-fn keep_driven(printed: io::Result<()>, driven: AwaitsSighting) -> io::Result<AwaitsSighting> {
-    match printed {
-        Ok(()) => Ok(driven),
-        Err(error) => {
-            driven.close();
-            Err(error)
-        }
-    }
+// What a session is driven by: a plan with its rules, and where to print.
+#[derive(Clone, Copy)]
+struct Console<'a> {
+    rt: &'a HostRuntime,
+    ruled: &'a RuledPlant<'a, Plan>,
 }
 
-// Makes the setting and prints what came of it. The next stand, or the same one.
-fn set(
-    rt: &HostRuntime,
-    plan: &Plan,
-    rules: &[Rule],
-    poised: AwaitsSetting,
-    setting: u32,
-) -> io::Result<Result<AwaitsSighting, AwaitsSetting>> {
-    match poised.set(plan, rules, setting) {
-        Ok(driven) => {
-            let phase = driven.phase();
-            let printed = println!(rt; "set {setting}: taken, {phase}");
-            Ok(Ok(keep_driven(printed, driven)?))
-        }
-        Err(NotTaken { stand, fault }) => {
-            let refusal = fault.refusal();
-            let phase = stand.phase();
-            let printed = println!(rt; "set {setting}: {refusal}, {phase}");
-            Ok(Err(keep_poised(printed, stand)?))
+impl Console<'_> {
+    // Prints the call, what came of it and where the stand is.
+    fn print<S: Stand, D: Display + Drop>(&self, call: Call, what: D, stand: S) -> io::Result<S> {
+        let phase = stand.phase();
+        keep(println!(self.rt; "{call}: {what}, {phase}"), stand)
+    }
+
+    // Prints what came of a call on a stand. The next stand, or the same one.
+    fn told<S: Stand, T: Stand>(
+        &self,
+        call: Call,
+        answer: Result<S, NotTaken<T>>,
+    ) -> io::Result<Result<S, T>> {
+        match answer {
+            Ok(next) => Ok(Ok(self.print(call, "taken", next)?)),
+            Err(NotTaken { stand, fault }) => Ok(Err(self.print(call, fault.refusal(), stand)?)),
         }
     }
-}
 
-// Tells the sighting and prints what came of it. The next stand, or the same one.
-fn see(
-    rt: &HostRuntime,
-    plan: &Plan,
-    driven: AwaitsSighting,
-    state: u32,
-) -> io::Result<Result<AwaitsSetting, AwaitsSighting>> {
-    match driven.see(plan, state) {
-        Ok(poised) => {
-            let phase = poised.phase();
-            let printed = println!(rt; "see {state}: taken, {phase}");
-            Ok(Ok(keep_poised(printed, poised)?))
-        }
-        Err(NotTaken { stand, fault }) => {
-            let refusal = fault.refusal();
-            let phase = stand.phase();
-            let printed = println!(rt; "see {state}: {refusal}, {phase}");
-            Ok(Err(keep_driven(printed, stand)?))
-        }
+    // Makes the setting. The next stand, or the same one.
+    fn set(
+        &self,
+        poised: AwaitsSetting,
+        setting: u32,
+    ) -> io::Result<Result<AwaitsSighting, AwaitsSetting>> {
+        let answer = poised.set(self.ruled, setting);
+        self.told(Call::Set { setting }, answer)
     }
-}
 
-// Makes the setting that is offered, or else the suggestion. None where the session ended.
-fn drive(
-    rt: &HostRuntime,
-    plan: &Plan,
-    rules: &[Rule],
-    poised: AwaitsSetting,
-    offered: u32,
-) -> io::Result<Option<AwaitsSighting>> {
-    let poised = match set(rt, plan, rules, poised, offered)? {
-        Ok(driven) => return Ok(Some(driven)),
-        Err(poised) => poised,
-    };
-    let Some(setting) = poised.suggestion(plan, rules) else {
-        poised.close();
-        return Ok(None);
-    };
-    let poised = keep_poised(println!(rt; "suggested: {setting}"), poised)?;
-    match set(rt, plan, rules, poised, setting)? {
-        Ok(driven) => Ok(Some(driven)),
-        Err(poised) => {
+    // Tells the sighting. The next stand, or the same one.
+    fn see(
+        &self,
+        driven: AwaitsSighting,
+        state: u32,
+    ) -> io::Result<Result<AwaitsSetting, AwaitsSighting>> {
+        let answer = driven.see(self.ruled.plant, state);
+        self.told(Call::See { state }, answer)
+    }
+
+    // Makes the setting that is offered, or else the suggestion. None where the session ended.
+    fn drive(&self, poised: AwaitsSetting, offered: u32) -> io::Result<Option<AwaitsSighting>> {
+        let poised = match self.set(poised, offered)? {
+            Ok(driven) => return Ok(Some(driven)),
+            Err(poised) => poised,
+        };
+        let Some(setting) = poised.suggestion(self.ruled) else {
             poised.close();
-            Ok(None)
-        }
-    }
-}
-
-// Tells the first sighting, or else the second. None where the session ended.
-fn watch(
-    rt: &HostRuntime,
-    plan: &Plan,
-    driven: AwaitsSighting,
-    tick: &Tick,
-) -> io::Result<Option<AwaitsSetting>> {
-    let driven = match see(rt, plan, driven, tick.told)? {
-        Ok(poised) => return Ok(Some(poised)),
-        Err(driven) => driven,
-    };
-    match see(rt, plan, driven, tick.seen)? {
-        Ok(poised) => Ok(Some(poised)),
-        Err(driven) => {
-            driven.close();
-            Ok(None)
-        }
-    }
-}
-
-// The whole session, tick by tick.
-fn drive_session(
-    rt: &HostRuntime,
-    plan: &Plan,
-    rules: &[Rule],
-    first: AwaitsSetting,
-) -> io::Result<()> {
-    let mut poised = first;
-    for tick in &TICKS {
-        let driven = match drive(rt, plan, rules, poised, tick.offered)? {
-            Some(driven) => driven,
-            None => return println!(rt; "no setting fits"),
+            return Ok(None);
         };
-        poised = match watch(rt, plan, driven, tick)? {
-            Some(next) => next,
-            None => return println!(rt; "the machine is lost sight of"),
-        };
+        let poised = keep(println!(self.rt; "suggested: {setting}"), poised)?;
+        Ok(next_or_end(self.set(poised, setting)?))
     }
-    let phase = poised.close();
-    println!(rt; "close: taken, {phase}")
-}
 
-// Begins in each state in turn, up to the first that is a start.
-fn begin_somewhere(rt: &HostRuntime, plan: &Plan, rules: &[Rule]) -> io::Result<()> {
-    for state in [4, 2, 1] {
-        match AwaitsSetting::begin(plan, state) {
-            Ok(poised) => {
-                let phase = poised.phase();
-                let printed = println!(rt; "begin {state}: taken, {phase}");
-                let poised = keep_poised(printed, poised)?;
-                return drive_session(rt, plan, rules, poised);
-            }
-            Err(fault) => {
-                let refusal = fault.refusal();
-                println!(rt; "begin {state}: {refusal}")?;
+    // Tells the first sighting, or else the second. None where the session ended.
+    fn watch(&self, driven: AwaitsSighting, tick: &Tick) -> io::Result<Option<AwaitsSetting>> {
+        let driven = match self.see(driven, tick.told)? {
+            Ok(poised) => return Ok(Some(poised)),
+            Err(driven) => driven,
+        };
+        Ok(next_or_end(self.see(driven, tick.seen)?))
+    }
+
+    // The whole session, tick by tick.
+    fn drive_session(&self, first: AwaitsSetting) -> io::Result<()> {
+        let mut poised = first;
+        for tick in &TICKS {
+            let Some(driven) = self.drive(poised, tick.offered)? else {
+                return println!(self.rt; "no setting fits");
+            };
+            let Some(next) = self.watch(driven, tick)? else {
+                return println!(self.rt; "the machine is lost sight of");
+            };
+            poised = next;
+        }
+        let phase = poised.close();
+        println!(self.rt; "close: taken, {phase}")
+    }
+
+    // Begins in each state in turn, up to the first that is a start.
+    fn begin_somewhere(&self) -> io::Result<()> {
+        for state in [4, 2, 1] {
+            let call = Call::Begin { state };
+            match AwaitsSetting::begin(self.ruled.plant, state) {
+                Ok(poised) => return self.drive_session(self.print(call, "taken", poised)?),
+                Err(fault) => println!(self.rt; "{call}: {}", fault.refusal())?,
             }
         }
+        Ok(())
     }
-    Ok(())
+}
+
+// The next stand; the session ends where there is none.
+fn next_or_end<S: Stand, T: Stand>(answer: Result<S, T>) -> Option<S> {
+    match answer {
+        Ok(next) => Some(next),
+        Err(stand) => {
+            stand.close();
+            None
+        }
+    }
 }
 
 // Drafts the plan, and drives the session by its rules where the draft went through.
@@ -211,13 +174,17 @@ fn print_session(rt: &HostRuntime, plan: &Plan) -> io::Result<()> {
     let mut rows: [Row; 4] = [0; 4];
     let mut rules = [Rule::default(); 4];
     match draft(plan, &mut rows, &mut rules) {
-        Ok(count) => begin_somewhere(rt, plan, &rules[0..count]),
+        Ok(count) => {
+            let rules = &rules[..count];
+            let ruled = &RuledPlant { plant: plan, rules };
+            Console { rt, ruled }.begin_somewhere()
+        }
         Err(fault) => rt.println(fault.refusal()),
     }
 }
 
 fn main(rt: HostRuntime) -> anyhow::Result<()> {
-    match Plan::read(rt.alloc(), &BRAKE_PLAN) {
+    match Plan::read(rt.alloc(), &brake_plan()) {
         Ok(plan) => print_session(&rt, &plan)?,
         Err(_) => println!(rt; "the plan was turned away")?,
     }

@@ -21,7 +21,7 @@ use Rattle.plant.proofs.Staying.{stays_decides}
 use Rattle.draft.specs.Outcome.{Filled, ReadsBack, WentThrough, TurnedAway}
 use Rattle.draft.specs.Rows.{row_from, rows_of, open_in}
 use Rattle.draft.specs.Starts.{AllOpen, Lost}
-use Rattle.draft.specs.Writing.{Wrote}
+use Rattle.filling.specs.Writing.{Wrote}
 
 -- an empty row has nothing open
 empty_shuts : (rows : List ℕ) (s a : ℕ) → get_or rows s 0 ≡ 0 → open_in rows s a ≡ true → ⊥

@@ -1,3 +1,4 @@
 pub mod Largest
+pub mod Packing
 pub mod Places
 pub mod Writing

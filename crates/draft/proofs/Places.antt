@@ -1,7 +1,7 @@
 -- A draft needs no more places than there can be rules. Assumes nothing.
 use Rattle.std.proofs.Common.{◌-◌, ◌^◌, ◌≤◌, mul-le-mul, arith}
 use Rattle.plant.specs.Meaning.{Meaning, Within, settings, most_lines}
-use Rattle.plant.proofs.Sizes.{few_states, few_settings}
+use Rattle.plant.proofs.Limits.{few_states, few_settings}
 use Rattle.rules.specs.Limits.{most_rules}
 use Rattle.draft.specs.Rows.{places_needed}
 

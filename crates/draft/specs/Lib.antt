@@ -3,4 +3,3 @@ pub mod Outcome
 pub mod Room
 pub mod Rows
 pub mod Starts
-pub mod Writing

@@ -16,6 +16,7 @@ pub enum DraftFault {
 
 impl DraftFault {
     // The fault's number, place and layer.
+    // A method and no `From`: of some faults there is no refusal, and one name asks all of them.
     pub fn refusal(&self) -> Refusal
         ensures { result ≡ draft_refusal self.now }
     {

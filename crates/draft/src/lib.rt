@@ -32,13 +32,15 @@ fn check_room<P: Plant>(plant: &P, rows: usize, rules: usize) -> Result<(), Draf
     Ok(())
 }
 
-// Drafts into memory of the right lengths.
+// Drafts into memory of the right lengths. Each step names the length that it needs: a struct of both loans is no plainer,
+// since its invariant speaks of the plant too, and each contract names both loans again.
 fn draft_in_room<P: Plant>(
     plant: &P,
     rows: &mut [Row],
     rules: &mut [Rule],
 ) -> Result<usize, DraftFault>
-    requires { (length rows.old ≡ states (P.meaning plant.now)) × (places_needed (P.meaning plant.now) ≤ length rules.old) }
+    requires each_state { length rows.old ≡ states (P.meaning plant.now) }
+    requires places { places_needed (P.meaning plant.now) ≤ length rules.old }
     ensures { Answered (P.meaning plant.now) rows.new rules.old rules.new result }
 {
     fill_rows(plant, rows);

@@ -1,6 +1,6 @@
 // The rows of a draft: which settings are open in each state.
-ghost use Rattle.std.specs.Prelude.{◌≡◌, ◌+◌, ◌^◌, ◌<◌, length, MatchOption};
-ghost use Rattle.plant.specs.Meaning.{states, most_lines};
+ghost use Rattle.std.specs.Prelude.{◌≡◌, ◌<◌, length, MatchOption};
+ghost use Rattle.plant.specs.Meaning.{states};
 ghost use Rattle.sweep.specs.Greatest.{Greatest};
 ghost use Rattle.draft.specs.Rows.{row_from, rows_from, rows_of};
 ghost use Rattle.draft.specs.Starts.{Lost, AllOpen};
@@ -8,46 +8,36 @@ ghost use Rattle.draft.specs.Starts.{Lost, AllOpen};
 use plant::{MAX_STATES, Plant, Row};
 use sweep::{lasting_states, pair_stays};
 
-// The row with one setting more open, which lies above those that are.
-fn with_open(row: Row, setting: u32) -> Row
-    requires { (row < 2 ^ setting) × (setting < 2 ^ most_lines) }
-    ensures { result ≡ 2 ^ setting + row }
-{
-    row | 1 << setting
-}
-
 // The settings of `state` that are safe and lead only to states whose flag is up.
 fn open_row<P: Plant>(plant: &P, held: &[bool], state: u32) -> Row
     ensures { result ≡ row_from (P.meaning plant.now) held.now state }
 {
-    let mut row = 0;
-    for a in 0..plant.settings() {
-        if pair_stays(plant, held, state, a) {
-            row = with_open(row, a);
-        }
-    }
-    row
+    (0..plant.settings())
+        .filter(|a| pair_stays(plant, held, state, *a))
+        .fold(0, |row, a| row | 1 << a)
 }
 
 // The row of a state, given the flags of the states that last. The plant is asked only where the flag is up:
 // a state that does not last has nothing open.
-fn row_of<P: Plant>(plant: &P, held: &[bool], state: u32) -> Row
-    requires { (Greatest (P.meaning plant.now) held.now) × (state < states (P.meaning plant.now)) }
+fn row_of<P: Plant>(plant: &P, held: &[bool], state: usize) -> Row
+    requires flags { Greatest (P.meaning plant.now) held.now }
+    requires a_state { state < states (P.meaning plant.now) }
     ensures { result ≡ row_from (P.meaning plant.now) held.now state }
 {
-    if !held[state as usize] {
+    if !held[state] {
         return 0;
     }
-    open_row(plant, held, state)
+    open_row(plant, held, state as u32)
 }
 
 // Writes the row of each state, given the flags of the states that last.
 fn write_rows<P: Plant>(plant: &P, held: &[bool], rows: &mut [Row])
-    requires { (length rows.old ≡ states (P.meaning plant.now)) × (Greatest (P.meaning plant.now) held.now) }
+    requires each_state { length rows.old ≡ states (P.meaning plant.now) }
+    requires flags { Greatest (P.meaning plant.now) held.now }
     ensures { rows.new ≡ rows_from (P.meaning plant.now) held.now }
 {
-    for s in 0..plant.states() {
-        rows[s as usize] = row_of(plant, held, s);
+    for (state, row) in rows.iter_mut().enumerate() {
+        *row = row_of(plant, held, state);
     }
 }
 
@@ -67,10 +57,5 @@ pub(crate) fn lost_start<P: Plant>(plant: &P, rows: &[Row]) -> Option<u32>
     requires { length rows.now ≡ states (P.meaning plant.now) }
     ensures { MatchOption result (AllOpen (P.meaning plant.now) rows.now) (λ t. Lost (P.meaning plant.now) rows.now t) }
 {
-    for t in 0..plant.states() {
-        if rows[t as usize] == 0 && plant.is_start(t) {
-            return Some(t);
-        }
-    }
-    None
+    (0..plant.states()).find(|t| rows[*t as usize] == 0 && plant.is_start(*t))
 }

@@ -3,108 +3,58 @@
 
 #[cfg(test)]
 mod tests {
-    use bench::{BenchTable, Move, TableFault};
+    use bench::{Move, TableFault};
     use draft::{DraftFault, draft};
     use plant::{Plant, Row};
-    use refusal::{Layer, Refusal};
-    use rules::{Rule, fits};
-    use std::alloc::Global;
+    use refusal::Layer;
+    use rules::{Rule, RuledPlant};
+    use samples::{DETOUR, refused, rule, step, table_of};
     use std::test::Fail;
 
-    fn step(from: u32, setting: u32, to: u32) -> Move {
-        Move { from, setting, to }
-    }
-
-    fn table(
-        heap: Global,
-        bits: u32,
-        lines: u32,
-        starts: &[u32],
-        moves: &[Move],
-    ) -> Result<BenchTable, Fail> {
-        match BenchTable::new(
-            bits,
-            lines,
-            Vec::from_slice(heap, starts)?,
-            Vec::from_slice(heap, moves)?,
-        ) {
-            Ok(made) => Ok(made),
-            Err(_) => Err(Fail::new("the table was turned away")),
-        }
-    }
-
-    fn fault(
-        heap: Global,
-        bits: u32,
-        lines: u32,
-        starts: &[u32],
-        moves: &[Move],
-    ) -> Result<TableFault, Fail> {
-        match BenchTable::new(
-            bits,
-            lines,
-            Vec::from_slice(heap, starts)?,
-            Vec::from_slice(heap, moves)?,
-        ) {
-            Ok(_) => Err(Fail::new("the table was made")),
-            Err(fault) => Ok(fault),
-        }
-    }
+    // A rule that stands in the memory before a draft.
+    const HELD: Rule = Rule {
+        state: 9,
+        line: 9,
+        prefix: 9,
+        value: true,
+    };
 
     #[test]
     fn sizes_come_before_entries(rt: HostRuntime) -> Result<(), Fail> {
-        let heap = rt.alloc();
         for (bits, lines) in [(0, 1), (9, 1), (1, 0), (1, 5)] {
-            assert_eq!(rt;
-                fault(heap, bits, lines, &[9], &[])?,
-                TableFault::SizeLimits
-            );
+            let made = table_of(rt.alloc(), bits, lines, &[9], &[])?;
+            assert_eq!(rt; made.err(), Some(TableFault::SizeLimits));
         }
         assert_eq!(rt;
             TableFault::SizeLimits.refusal(),
-            Refusal {
-                number: 4,
-                place: 0,
-                layer: Layer::Plant,
-            }
+            refused(4, 0, Layer::Plant)
         );
         Ok(())
     }
 
     #[test]
     fn moves_are_counted_after_starts(rt: HostRuntime) -> Result<(), Fail> {
-        let heap = rt.alloc();
         let inside = step(1, 1, 1);
-        assert_eq!(rt;
-            fault(heap, 1, 1, &[1, 2], &[step(2, 0, 0)])?,
-            TableFault::EntryBeyond { index: 1 }
-        );
-        assert_eq!(rt;
-            fault(heap, 1, 1, &[1, 0], &[inside, step(2, 0, 0)])?,
-            TableFault::EntryBeyond { index: 3 }
-        );
-        assert_eq!(rt;
-            fault(heap, 1, 1, &[], &[step(0, 2, 0)])?,
-            TableFault::EntryBeyond { index: 0 }
-        );
-        assert_eq!(rt;
-            fault(heap, 1, 1, &[0], &[inside, inside, step(0, 0, 2)])?,
-            TableFault::EntryBeyond { index: 3 }
-        );
+        let cases: [(&[u32], &[Move], usize); 4] = [
+            (&[1, 2], &[step(2, 0, 0)], 1),
+            (&[1, 0], &[inside, step(2, 0, 0)], 3),
+            (&[], &[step(0, 2, 0)], 0),
+            (&[0], &[inside, inside, step(0, 0, 2)], 3),
+        ];
+        for (starts, moves, index) in cases {
+            let made = table_of(rt.alloc(), 1, 1, starts, moves)?;
+            assert_eq!(rt; made.err(), Some(TableFault::EntryBeyond { index }));
+        }
         assert_eq!(rt;
             TableFault::EntryBeyond { index: 3 }.refusal(),
-            Refusal {
-                number: 12,
-                place: 3,
-                layer: Layer::Plant,
-            }
+            refused(12, 3, Layer::Plant)
         );
         Ok(())
     }
 
     #[test]
     fn a_number_beyond_the_sizes_is_answered_no(rt: HostRuntime) -> Result<(), Fail> {
-        let plant = table(rt.alloc(), 1, 1, &[1], &[step(1, 1, 0)])?;
+        let plant = table_of(rt.alloc(), 1, 1, &[1], &[step(1, 1, 0)])??;
         assert_eq!(rt; plant.state_bits(), 1);
         assert_eq!(rt; plant.lines(), 1);
         assert!(rt; plant.is_start(1) && !plant.is_start(0) && !plant.is_start(2));
@@ -120,7 +70,7 @@ mod tests {
 
     #[test]
     fn empty_lists_go_through_with_nothing_open(rt: HostRuntime) -> Result<(), Fail> {
-        let plant = table(rt.alloc(), 1, 1, &[], &[])?;
+        let plant = table_of(rt.alloc(), 1, 1, &[], &[])??;
         let mut rows: [Row; 2] = [7; 2];
         let mut rules = [Rule::default(); 2];
         assert_eq!(rt; draft(&plant, &mut rows, &mut rules), Ok(0));
@@ -130,79 +80,37 @@ mod tests {
 
     #[test]
     fn a_start_without_moves_is_lost(rt: HostRuntime) -> Result<(), Fail> {
-        let plant = table(rt.alloc(), 2, 1, &[3, 2], &[step(0, 0, 0)])?;
+        let plant = table_of(rt.alloc(), 2, 1, &[3, 2], &[step(0, 0, 0)])??;
         let mut rows: [Row; 4] = [7; 4];
-        let held = Rule {
-            state: 9,
-            line: 9,
-            prefix: 9,
-            value: true,
-        };
-        let mut rules = [held; 4];
+        let mut rules = [HELD; 4];
         let lost = DraftFault::LostStart { state: 2 };
         assert_eq!(rt; draft(&plant, &mut rows, &mut rules), Err(lost));
         assert_eq!(rt; rows, [1, 0, 0, 0]);
-        assert_eq!(rt; rules, [held; 4]);
-        assert_eq!(rt;
-            lost.refusal(),
-            Refusal {
-                number: 10,
-                place: 2,
-                layer: Layer::Draft,
-            }
-        );
+        assert_eq!(rt; rules, [HELD; 4]);
+        assert_eq!(rt; lost.refusal(), refused(10, 2, Layer::Draft));
         Ok(())
     }
 
     #[test]
     fn a_setting_that_may_lead_astray_is_shut(rt: HostRuntime) -> Result<(), Fail> {
-        // Setting 1 of state 0 may lead to 1; there setting 0 leads to 2, from which nothing does, and setting 1 back.
-        let plant = table(
-            rt.alloc(),
-            2,
-            1,
-            &[0],
-            &[
-                step(0, 0, 0),
-                step(0, 1, 0),
-                step(0, 1, 1),
-                step(1, 0, 2),
-                step(1, 1, 0),
-            ],
-        )?;
+        let plant = table_of(rt.alloc(), 2, 1, &[0], &DETOUR)??;
         let mut rows: [Row; 4] = [0; 4];
-        let held = Rule {
-            state: 9,
-            line: 9,
-            prefix: 9,
-            value: true,
-        };
-        let mut rules = [held; 5];
+        let mut rules = [HELD; 5];
         assert_eq!(rt; draft(&plant, &mut rows, &mut rules), Ok(1));
         assert_eq!(rt; rows, [3, 2, 0, 0]);
-        assert_eq!(rt;
-            rules,
-            [
-                Rule {
-                    state: 1,
-                    line: 0,
-                    prefix: 0,
-                    value: true,
-                },
-                held,
-                held,
-                held,
-                held,
-            ]
-        );
-        assert!(rt; fits(&plant, &rules[0..1], 0, 0) && fits(&plant, &rules[0..1], 0, 1));
-        assert!(rt; !fits(&plant, &rules[0..1], 1, 0) && fits(&plant, &rules[0..1], 1, 1));
+        assert_eq!(rt; rules, [rule(1, 0, 0, true), HELD, HELD, HELD, HELD]);
+        let ruled = RuledPlant {
+            plant: &plant,
+            rules: &rules[0..1],
+        };
+        assert!(rt; ruled.fits(0, 0) && ruled.fits(0, 1));
+        assert!(rt; !ruled.fits(1, 0) && ruled.fits(1, 1));
         Ok(())
     }
 
     #[test]
     fn memory_of_a_wrong_length_is_left_alone(rt: HostRuntime) -> Result<(), Fail> {
-        let plant = table(rt.alloc(), 1, 2, &[0], &[step(0, 0, 0)])?;
+        let plant = table_of(rt.alloc(), 1, 2, &[0], &[step(0, 0, 0)])??;
         let mut rows: [Row; 3] = [7; 3];
         let mut rules = [Rule::default(); 6];
         let few = DraftFault::RowCount { needed: 2 };
@@ -214,22 +122,8 @@ mod tests {
             Err(short)
         );
         assert_eq!(rt; rows, [7; 3]);
-        assert_eq!(rt;
-            few.refusal(),
-            Refusal {
-                number: 11,
-                place: 2,
-                layer: Layer::Draft,
-            }
-        );
-        assert_eq!(rt;
-            short.refusal(),
-            Refusal {
-                number: 11,
-                place: 6,
-                layer: Layer::Draft,
-            }
-        );
+        assert_eq!(rt; few.refusal(), refused(11, 2, Layer::Draft));
+        assert_eq!(rt; short.refusal(), refused(11, 6, Layer::Draft));
         assert_eq!(rt; draft(&plant, &mut rows[0..2], &mut rules), Ok(2));
         assert_eq!(rt; rows, [1, 0, 7]);
         Ok(())
@@ -239,35 +133,16 @@ mod tests {
     fn the_largest_table(rt: HostRuntime) -> Result<(), Fail> {
         // From every state, only setting 15 has a move, back to state 0: four rules a state.
         let heap = rt.alloc();
-        let mut moves = Vec::new(heap);
-        for s in 0..256 {
-            moves.push(step(s, 15, 0))?;
-        }
-        let plant = table(heap, 8, 4, &[0, 255], moves.as_slice())?;
+        let moves = (0..256)
+            .map(|state| step(state, 15, 0))
+            .collect::<Vec<_>>(heap)?;
+        let plant = table_of(heap, 8, 4, &[0, 255], moves.as_slice())??;
         let mut rows: [Row; 256] = [0; 256];
         let mut rules = [Rule::default(); 3840];
         assert_eq!(rt; draft(&plant, &mut rows, &mut rules), Ok(1024));
-        for row in rows.iter() {
-            assert_eq!(rt; *row, 32768);
-        }
-        assert_eq!(rt;
-            rules[1020],
-            Rule {
-                state: 255,
-                line: 0,
-                prefix: 0,
-                value: true,
-            }
-        );
-        assert_eq!(rt;
-            rules[1023],
-            Rule {
-                state: 255,
-                line: 3,
-                prefix: 7,
-                value: true,
-            }
-        );
+        assert!(rt; rows.iter().all(|row| *row == 32768));
+        assert_eq!(rt; rules[1020], rule(255, 0, 0, true));
+        assert_eq!(rt; rules[1023], rule(255, 3, 7, true));
         assert_eq!(rt; rules[1024], Rule::default());
         Ok(())
     }

@@ -3,13 +3,14 @@
 
 #[cfg(test)]
 mod tests {
-    use bench::{BenchTable, Move};
+    use bench::BenchTable;
     use draft::{DraftFault, draft};
     use layers::{BanLayer, LayerFault, MAX_BANS};
     use overlay::overlaid;
     use plant::{Condition, Plant, Row};
-    use refusal::{Layer, Refusal};
+    use refusal::Layer;
     use rules::Rule;
+    use samples::{refused, step, table_of};
     use std::alloc::Global;
     use std::process::Abort;
     use std::test::Fail;
@@ -22,28 +23,6 @@ mod tests {
     // Letter 2 is past one state bit and one line.
     const BEYOND: Condition = Condition { ones: 0, zeros: 4 };
 
-    fn step(from: u32, setting: u32, to: u32) -> Move {
-        Move { from, setting, to }
-    }
-
-    fn table(
-        heap: Global,
-        bits: u32,
-        lines: u32,
-        starts: &[u32],
-        moves: &[Move],
-    ) -> Result<BenchTable, Fail> {
-        match BenchTable::new(
-            bits,
-            lines,
-            Vec::from_slice(heap, starts)?,
-            Vec::from_slice(heap, moves)?,
-        ) {
-            Ok(made) => Ok(made),
-            Err(_) => Err(Fail::new("the table was turned away")),
-        }
-    }
-
     // One state bit and one line; the line off leads to state 0, the line on to either state.
     fn small(heap: Global) -> Result<BenchTable, Fail> {
         let moves = [
@@ -54,14 +33,12 @@ mod tests {
             step(1, 1, 0),
             step(1, 1, 1),
         ];
-        table(heap, 1, 1, &[0], &moves)
+        Ok(table_of(heap, 1, 1, &[0], &moves)??)
     }
 
-    fn fault<P: Plant>(plant: &P, bans: &[Condition]) -> Result<LayerFault, Fail> {
-        match BanLayer::new(plant, bans) {
-            Ok(_) => Err(Fail::new("the bans were laid")),
-            Err(fault) => Ok(fault),
-        }
+    // Why the bans are turned away, if they are.
+    fn fault<P: Plant>(plant: &P, bans: &[Condition]) -> Option<LayerFault> {
+        BanLayer::new(plant, bans).err()
     }
 
     // Whether two plants answer the same about states and settings below 4.
@@ -87,51 +64,34 @@ mod tests {
     fn rows<P: Plant>(plant: &P, bans: &[Condition]) -> Result<[Row; 2], Fail> {
         let mut rows: [Row; 2] = [9; 2];
         let mut rules = [Rule::default(); 2];
-        match BanLayer::new(plant, bans) {
-            Ok(layer) => match draft(&layer, &mut rows, &mut rules) {
-                Ok(_) => Ok(rows),
-                Err(_) => Err(Fail::new("the draft was turned away")),
-            },
-            Err(_) => Err(Fail::new("the bans were turned away")),
-        }
+        draft(&BanLayer::new(plant, bans)?, &mut rows, &mut rules)?;
+        Ok(rows)
     }
 
     #[test]
     fn no_bans_change_nothing(rt: HostRuntime) -> Result<(), Fail> {
         let plant = small(rt.alloc())?;
-        match BanLayer::new(&plant, &[]) {
-            Ok(layer) => answer_alike(&rt, &layer, &plant),
-            Err(_) => Err(Fail::new("no bans were turned away")),
-        }
+        answer_alike(&rt, &BanLayer::new(&plant, &[])?, &plant)
     }
 
     #[test]
     fn sixteen_bans_are_laid(rt: HostRuntime) -> Result<(), Fail> {
         let plant = small(rt.alloc())?;
         assert_eq!(rt; MAX_BANS, 16);
-        match BanLayer::new(&plant, &[NOT_ON; 16]) {
-            Ok(layer) => {
-                assert!(rt; layer.is_safe(0, 0) && layer.is_safe(0, 1) && layer.is_safe(1, 0));
-                assert!(rt; !layer.is_safe(1, 1));
-                Ok(())
-            }
-            Err(_) => Err(Fail::new("sixteen bans were turned away")),
-        }
+        let bans = [NOT_ON; 16];
+        let layer = BanLayer::new(&plant, &bans)?;
+        assert!(rt; layer.is_safe(0, 0) && layer.is_safe(0, 1) && layer.is_safe(1, 0));
+        assert!(rt; !layer.is_safe(1, 1));
+        Ok(())
     }
 
     #[test]
     fn a_seventeenth_is_refused_first(rt: HostRuntime) -> Result<(), Fail> {
         let plant = small(rt.alloc())?;
-        assert_eq!(rt; fault(&plant, &[NOT_ON; 17])?, LayerFault::TooManyBans);
-        assert_eq!(rt; fault(&plant, &[BEYOND; 17])?, LayerFault::TooManyBans);
-        assert_eq!(rt;
-            LayerFault::TooManyBans.refusal(),
-            Refusal {
-                number: 13,
-                place: 16,
-                layer: Layer::Plant,
-            }
-        );
+        let too_many = LayerFault::TooManyBans;
+        assert_eq!(rt; fault(&plant, &[NOT_ON; 17]), Some(too_many));
+        assert_eq!(rt; fault(&plant, &[BEYOND; 17]), Some(too_many));
+        assert_eq!(rt; too_many.refusal(), refused(13, 16, Layer::Plant));
         // The plant below is as it was.
         assert!(rt; plant.is_safe(1, 1));
         Ok(())
@@ -144,22 +104,13 @@ mod tests {
             ones: 1 << 31,
             zeros: 0,
         };
+        let third = LayerFault::BanBeyond { index: 2 };
+        assert_eq!(rt; fault(&plant, &[NOT_ON, NOT_OFF, far, BEYOND]), Some(third));
         assert_eq!(rt;
-            fault(&plant, &[NOT_ON, NOT_OFF, far, BEYOND])?,
-            LayerFault::BanBeyond { index: 2 }
+            fault(&plant, &[BEYOND; 16]),
+            Some(LayerFault::BanBeyond { index: 0 })
         );
-        assert_eq!(rt;
-            fault(&plant, &[BEYOND; 16])?,
-            LayerFault::BanBeyond { index: 0 }
-        );
-        assert_eq!(rt;
-            LayerFault::BanBeyond { index: 2 }.refusal(),
-            Refusal {
-                number: 12,
-                place: 2,
-                layer: Layer::Plant,
-            }
-        );
+        assert_eq!(rt; third.refusal(), refused(12, 2, Layer::Plant));
         Ok(())
     }
 
@@ -167,25 +118,22 @@ mod tests {
     fn a_ban_on_the_last_line(rt: HostRuntime) -> Result<(), Fail> {
         // With 8 state bits and 4 lines, letter 11 is the last line.
         let moves = [step(255, 7, 255), step(255, 8, 0), step(255, 15, 255)];
-        let plant = table(rt.alloc(), 8, 4, &[255], &moves)?;
+        let plant = table_of(rt.alloc(), 8, 4, &[255], &moves)??;
         let last_on = Condition {
             ones: 1 << 11,
             zeros: 1 << 8,
         };
-        match BanLayer::new(&plant, &[last_on]) {
-            Ok(layer) => {
-                assert!(rt; layer.is_safe(255, 7) && !layer.is_safe(255, 8));
-                assert!(rt; layer.is_safe(255, 15) && layer.follows(255, 8, 0));
-            }
-            Err(_) => return Err(Fail::new("the ban was turned away")),
-        }
+        let bans = [last_on];
+        let layer = BanLayer::new(&plant, &bans)?;
+        assert!(rt; layer.is_safe(255, 7) && !layer.is_safe(255, 8));
+        assert!(rt; layer.is_safe(255, 15) && layer.follows(255, 8, 0));
         let past = Condition {
             ones: 1 << 12,
             zeros: 0,
         };
         assert_eq!(rt;
-            fault(&plant, &[last_on, past])?,
-            LayerFault::BanBeyond { index: 1 }
+            fault(&plant, &[last_on, past]),
+            Some(LayerFault::BanBeyond { index: 1 })
         );
         Ok(())
     }
@@ -195,17 +143,11 @@ mod tests {
         let plant = small(rt.alloc())?;
         let off_in_0 = Condition { ones: 0, zeros: 3 };
         let (one, other, both) = ([NOT_ON], [off_in_0], [NOT_ON, off_in_0]);
-        let (Ok(lower), Ok(all)) = (BanLayer::new(&plant, &one), BanLayer::new(&plant, &both))
-        else {
-            return Err(Fail::new("the bans were turned away"));
-        };
-        match BanLayer::new(&lower, &other) {
-            Ok(upper) => {
-                assert!(rt; !upper.is_safe(1, 1) && !upper.is_safe(0, 0) && upper.is_safe(0, 1));
-                answer_alike(&rt, &upper, &all)
-            }
-            Err(_) => Err(Fail::new("the bans over bans were turned away")),
-        }
+        let lower = BanLayer::new(&plant, &one)?;
+        let all = BanLayer::new(&plant, &both)?;
+        let upper = BanLayer::new(&lower, &other)?;
+        assert!(rt; !upper.is_safe(1, 1) && !upper.is_safe(0, 0) && upper.is_safe(0, 1));
+        answer_alike(&rt, &upper, &all)
     }
 
     #[test]
@@ -217,16 +159,13 @@ mod tests {
         let always = Condition { ones: 0, zeros: 0 };
         let mut rows: [Row; 2] = [9; 2];
         let mut rules = [Rule::default(); 2];
-        match BanLayer::new(&plant, &[never, always]) {
-            Ok(layer) => {
-                assert_eq!(rt;
-                    draft(&layer, &mut rows, &mut rules),
-                    Err(DraftFault::LostStart { state: 0 })
-                );
-                Ok(())
-            },
-            Err(_) => Err(Fail::new("the bans were turned away")),
-        }
+        let bans = [never, always];
+        let layer = BanLayer::new(&plant, &bans)?;
+        assert_eq!(rt;
+            draft(&layer, &mut rows, &mut rules),
+            Err(DraftFault::LostStart { state: 0 })
+        );
+        Ok(())
     }
 
     #[test]

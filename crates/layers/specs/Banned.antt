@@ -3,7 +3,7 @@ use Rattle.std.specs.Prelude.{◌≡◌, ℕ, true, not, ◌&&◌, List, Decides
 use mathlib.Core.List.{Memᴰ}
 use Rattle.plant.specs.Conditions.{holds, pair_word}
 use Rattle.plant.specs.Meaning.{Meaning}
-use Rattle.plant.specs.Tests.{some_of}
+use Rattle.std.specs.List.{list_any}
 use Rattle.plant.specs.declared.condition.Condition.{Condition}
 use Rattle.layers.specs.Bans.{TrueOf}
 
@@ -13,7 +13,7 @@ banned_meaning m bans = record {
   bits = m.bits;
   lines = m.lines;
   start = m.start;
-  safe = λ s a. m.safe s a && not (some_of (λ ban. holds ban (pair_word m.bits s a)) bans);
+  safe = λ s a. m.safe s a && not (list_any (λ ban. holds ban (pair_word m.bits s a)) bans);
   follows = m.follows;
 }
 

@@ -11,12 +11,7 @@ use plant::{Condition, Plant};
 fn is_safe_under<P: Plant>(below: &P, bans: &[Condition], state: u32, setting: u32) -> bool
     ensures { result ≡ (banned_meaning (P.meaning below.now) bans.now).safe state setting }
 {
-    if !below.is_safe(state, setting) {
-        return false;
-    }
-    let state_bits = below.state_bits();
-    let lines = below.lines();
-    !is_banned(bans, state_bits, lines, state, setting)
+    below.is_safe(state, setting) && !is_banned(bans, below.sizes(), state, setting)
 }
 
 impl<P: Plant> Plant for BanLayer<'_, '_, P> {

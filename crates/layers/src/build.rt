@@ -14,7 +14,7 @@ fn check<P: Plant>(below: &P, bans: &[Condition]) -> Result<(), LayerFault>
     if bans.len() > MAX_BANS {
         return Err(LayerFault::TooManyBans);
     }
-    if let Some(index) = first_beyond(bans, below.state_bits(), below.lines()) {
+    if let Some(index) = first_beyond(bans, below.sizes()) {
         return Err(LayerFault::BanBeyond { index });
     }
     Ok(())

@@ -15,6 +15,7 @@ pub enum LayerFault {
 
 impl LayerFault {
     // The fault's number, place and layer.
+    // A method and no `From`: of some faults there is no refusal, and one name asks all of them.
     pub fn refusal(&self) -> Refusal
         ensures { result ≡ layer_refusal self.now }
     {

@@ -1,33 +1,22 @@
 -- What stands at an offset of a log file, in words. Assumes nothing.
-use Rattle.std.proofs.Common.{◌≡◌, ℕ, ◌+◌, ◌<◌, ◌≤◌, Bool, true, false, cond, eqb, ltb, ◌⊎◌, List, [], ◌∷◌, ◌++◌, length, get_or, drop, Some, None, Ok, Err, Result, sym, refl, ap, ◌∙◌, subst, inl, inr, ⊎_elim, arith}
+use Rattle.std.proofs.Common.{◌≡◌, ℕ, ◌+◌, ◌<◌, ◌≤◌, Bool, true, false, cond, eqb, ltb, ◌⊎◌, List, [], ◌∷◌, ◌++◌, length, get_or, drop, Some, None, Ok, Err, Result, sym, refl, ap, ◌∙◌, subst, ⊎_elim, arith}
 use Rattle.std.proofs.lemmas.List.{drop_all}
 use Rattle.std.proofs.lemmas.Bool.{eqb-true, eqb-false, ltb-true, ltb-false}
-use Rattle.records.specs.Reading.{record_at, body_length}
+use Rattle.std.proofs.lemmas.Bool.Decides.{nat_tests}
+use Rattle.records.specs.Reading.{Record, body_length, record_at}
 use Rattle.records.specs.declared.BytesFault.{BytesFault}
 use Rattle.records.specs.declared.BytesFault.TheVariants.{AfterEnd}
-use Rattle.records.specs.declared.Record.{Record}
-use Rattle.records.proofs.Finding.{first_or_rest, found, damaged, no_kind, one_byte}
+use Rattle.records.proofs.Finding.{found, damaged, one_byte}
 use Rattle.reader.specs.declared.call.Call.{Call}
 use Rattle.reader.specs.declared.call.Call.TheVariants.{Begin, Set, See, Close}
 use Rattle.log_file.specs.Encoding.{begin_code, set_code, see_code, close_code, end_code, log_kinds, call_bytes, call_of}
 use Rattle.log_file.specs.Outcome.{CallThere, EntryInWords}
 use Rattle.log_file.specs.Running.{entry_found, entry_at}
-use Rattle.log_file.specs.declared.entry.Entry.TheVariants.{Made, End}
 
 -- the kinds and the lengths of their bodies
 kinds_only : (code k : ℕ) → body_length log_kinds code ≡ Some k
     → ((code ≡ begin_code) × (k ≡ 1)) ⊎ (((code ≡ set_code) × (k ≡ 1)) ⊎ (((code ≡ see_code) × (k ≡ 1)) ⊎ (((code ≡ close_code) × (k ≡ 0)) ⊎ ((code ≡ end_code) × (k ≡ 0)))))
-kinds_only code k e =
-    ⊎_elim (λ is. inl is) (λ e1.
-    ⊎_elim (λ is. inr (inl is)) (λ e2.
-    ⊎_elim (λ is. inr (inr (inl is))) (λ e3.
-    ⊎_elim (λ is. inr (inr (inr (inl is)))) (λ e4.
-    ⊎_elim (λ is. inr (inr (inr (inr is)))) (λ none. no_kind k none)
-    (first_or_rest end_code code 0 k None e4))
-    (first_or_rest close_code code 0 k _ e3))
-    (first_or_rest see_code code 1 k _ e2))
-    (first_or_rest set_code code 1 k _ e1))
-    (first_or_rest begin_code code 1 k _ e)
+kinds_only code k e = grind (arith, nat_tests)
 
 module _ (bytes : List ℕ) (at : ℕ) where
   -- a call with a number, and one without
@@ -67,13 +56,11 @@ module _ (bytes : List ℕ) (at : ℕ) where
       let w = found bytes log_kinds at r is in
       let e = w.end in
       let in_bytes = w.within in
-      ⊎_elim (λ k. absurd (let c = k.0 in omega arith)) (λ k1.
-      ⊎_elim (λ k. absurd (let c = k.0 in omega arith)) (λ k2.
-      ⊎_elim (λ k. absurd (let c = k.0 in omega arith)) (λ k3.
-      ⊎_elim (λ k. absurd (let c = k.0 in omega arith)) (λ k. let len = k.1 in (omega arith, omega arith, sym w.code ∙ end))
-      k3) k2) k1) (kinds_only r.code w.body w.known)
+      let first = w.code in
+      let k = kinds_only r.code w.body w.known in
+      grind arith
 
-  at_last : (r : Record) → record_at bytes log_kinds at ≡ Ok r → r.code ≡ end_code → (t : Bool) → ltb r.end (length bytes) ≡ t → EntryInWords bytes at (cond t (Err (AfterEnd r.end)) (Ok End))
+  at_last : (r : Record) → record_at bytes log_kinds at ≡ Ok r → r.code ≡ end_code → (t : Bool) → ltb r.end (length bytes) ≡ t → EntryInWords bytes at (cond t (Err (AfterEnd r.end)) (Ok None))
   at_last r is end true more =
       let w = at_end r is end in
       let e = w.0 in
@@ -86,7 +73,7 @@ module _ (bytes : List ℕ) (at : ℕ) where
       one_byte bytes at (at + 1) w.1 refl ∙ ap (λ k. k ∷ drop (at + 1) bytes) w.2 ∙ ap (λ t. end_code ∷ t) (drop_all (at + 1) bytes (omega arith))
 
   at_record : (r : Record) → record_at bytes log_kinds at ≡ Ok r → (t : Bool) → eqb r.code end_code ≡ t
-      → EntryInWords bytes at (cond t (cond (ltb r.end (length bytes)) (Err (AfterEnd r.end)) (Ok End)) (Ok (Made (call_of r.code (get_or bytes (at + 1) 0)) r.end)))
+      → EntryInWords bytes at (cond t (cond (ltb r.end (length bytes)) (Err (AfterEnd r.end)) (Ok None)) (Ok (Some (record { call = call_of r.code (get_or bytes (at + 1) 0); end = r.end }))))
   at_record r is true end = at_last r is (eqb-true r.code end_code end) (ltb r.end (length bytes)) refl
   at_record r is false other = at_call r is (eqb-false r.code end_code other)
 

@@ -1,5 +1,5 @@
 -- Running a log file, one record at a time. Assumes nothing.
-use Rattle.std.proofs.Common.{◌≡◌, ℕ, pred, ◌+◌, ◌≤◌, cond, List, length, is_ok, Ok, Err, Result, refl, ap, ◌∙◌, arith}
+use Rattle.std.proofs.Common.{◌≡◌, ℕ, pred, ◌+◌, ◌≤◌, cond, List, length, is_ok, Some, None, Ok, Err, Result, ap, ◌∙◌, arith}
 use Rattle.plant.specs.Meaning.{Meaning}
 use Rattle.records.specs.Running.{Next, over}
 use Rattle.records.specs.declared.BytesFault.{BytesFault}
@@ -10,22 +10,17 @@ use Rattle.rules.specs.declared.Rule.{Rule}
 use Rattle.reader.specs.Law.{tells}
 use Rattle.reader.specs.Step.{Answer, answer, after}
 use Rattle.reader.specs.declared.call.Call.{Call}
-use Rattle.reader.specs.declared.call.Call.TheVariants.{Begin, Set, See, Close}
 use Rattle.reader.specs.declared.fault.LogFault.{LogFault}
 use Rattle.reader.specs.declared.phase.Phase.{Phase}
 use Rattle.reader.proofs.Steps.{agrees}
 use Rattle.log_file.specs.Encoding.{log_kinds, call_bytes}
 use Rattle.log_file.specs.Running.{Progress, Ends, call_made, entry_found, entry_at, run_answered, run_entry, run_from}
-use Rattle.log_file.specs.declared.entry.Entry.TheVariants.{Made, End}
 use Rattle.log_file.specs.declared.fault.LogFileFault.{LogFileFault}
 use Rattle.log_file.specs.declared.fault.LogFileFault.TheVariants.{Bytes, Refused}
 
 -- every record takes a byte at least
 pub call_some : (c : Call) → 1 ≤ length (call_bytes c)
-call_some (Begin t) = omega arith
-call_some (Set a) = omega arith
-call_some (See t) = omega arith
-call_some Close = omega arith
+call_some c = grind arith
 
 module _ (m : Meaning) (rs : List Rule) (bytes : List ℕ) where
   abbrev step : Progress → ℕ → Next Progress Ends
@@ -41,10 +36,10 @@ module _ (m : Meaning) (rs : List Rule) (bytes : List ℕ) where
     pub at_fault : (e : BytesFault) → entry_at bytes at ≡ Err e → run_from m rs bytes f p at ≡ record { answer = Err (Bytes e); phase = p.phase }
     at_fault e is = over_here step cut (length bytes) past f p at _ enough (ap (run_entry m rs p at) is)
 
-    pub at_end : entry_at bytes at ≡ Ok End → run_from m rs bytes f p at ≡ record { answer = Ok p.taken; phase = p.phase }
+    pub at_end : entry_at bytes at ≡ Ok None → run_from m rs bytes f p at ≡ record { answer = Ok p.taken; phase = p.phase }
     at_end is = over_here step cut (length bytes) past f p at _ enough (ap (run_entry m rs p at) is)
 
-    module _ (c : Call) (end : ℕ) (is : entry_at bytes at ≡ Ok (Made c end)) where
+    module _ (c : Call) (end : ℕ) (is : entry_at bytes at ≡ Ok (Some (record { call = c; end = end }))) where
       pub at_refused : (e : LogFault) → answer m rs p.phase c ≡ Err e → run_from m rs bytes f p at ≡ record { answer = Err (Refused at e); phase = p.phase }
       at_refused e no_call = over_here step cut (length bytes) past f p at _ enough (ap (run_entry m rs p at) is ∙ ap (run_answered p (after m rs p.phase c) at end) no_call)
 
@@ -53,12 +48,10 @@ module _ (m : Meaning) (rs : List Rule) (bytes : List ℕ) where
 
 -- what the answer to a call was, by how it was passed on
 pub made_err : (offset : ℕ) (a : Answer) (x : LogFileFault) → ◌≡◌ {A = Result (Unit {0}) LogFileFault} (Err x) (call_made offset a) → (e : LogFault) × (a ≡ Err e) × (x ≡ Refused offset e)
-made_err offset (Ok done) x is = absurd (let z : ◌≡◌ {A = ℕ} 0 1 = cc in omega arith)
-made_err offset (Err e) x is = (e, refl, (let z : x ≡ Refused offset e = cc in z))
+made_err offset a x is = grind arith
 
 pub made_ok : (offset : ℕ) (a : Answer) → ◌≡◌ {A = Result (Unit {0}) LogFileFault} (Ok tt) (call_made offset a) → a ≡ Ok tt
-made_ok offset (Ok done) is = refl
-made_ok offset (Err e) is = absurd (let z : ◌≡◌ {A = ℕ} 0 1 = cc in omega arith)
+made_ok offset a is = grind arith
 
 -- a call that is turned away leaves the phase
 pub left_alone : (m : Meaning) (rs : List Rule) (p : Phase) (c : Call) (e : LogFault) → answer m rs p c ≡ Err e → after m rs p c ≡ p

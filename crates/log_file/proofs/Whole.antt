@@ -16,8 +16,7 @@ use Rattle.reader.specs.declared.phase.Phase.{Phase}
 use Rattle.log_file.specs.Encoding.{begin_code, set_code, see_code, close_code, end_code, log_kinds, call_bytes, calls_bytes}
 use Rattle.log_file.specs.Outcome.{EntryInWords}
 use Rattle.log_file.specs.Running.{Progress, Ends, entry_at, run_from, run_log}
-use Rattle.log_file.specs.declared.entry.Entry.{Entry}
-use Rattle.log_file.specs.declared.entry.Entry.TheVariants.{Made, End}
+use Rattle.log_file.specs.declared.entry.Made.{Made}
 use Rattle.log_file.specs.declared.fault.LogFileFault.TheVariants.{Refused}
 use Rattle.log_file.proofs.Entries.{entry_words}
 use Rattle.log_file.proofs.Steps.{at_end, at_refused, at_taken, call_some}
@@ -39,68 +38,41 @@ call_sound Close rest = record { code = close_code; size = 0; body = rest; is = 
 
 -- the end is no call
 not_end : (c : Call) (rest more : List ℕ) → call_bytes c ++ rest ≡ end_code ∷ more → ⊥
-not_end (Begin t) rest more e = let z : ◌≡◌ {A = ℕ} 49 63 = cc in omega arith
-not_end (Set a) rest more e = let z : ◌≡◌ {A = ℕ} 50 63 = cc in omega arith
-not_end (See t) rest more e = let z : ◌≡◌ {A = ℕ} 51 63 = cc in omega arith
-not_end Close rest more e = let z : ◌≡◌ {A = ℕ} 52 63 = cc in omega arith
+not_end c rest more e = grind arith
 
 -- two calls whose records begin the same bytes are the same
 same_call : (d c : Call) (xs ys : List ℕ) → call_bytes d ++ xs ≡ call_bytes c ++ ys → d ≡ c
-same_call (Begin t) (Begin u) xs ys e = let z : t ≡ u = cc in ap Begin z
-same_call (Begin t) (Set u) xs ys e = absurd (let z : ◌≡◌ {A = ℕ} 49 50 = cc in omega arith)
-same_call (Begin t) (See u) xs ys e = absurd (let z : ◌≡◌ {A = ℕ} 49 51 = cc in omega arith)
-same_call (Begin t) Close xs ys e = absurd (let z : ◌≡◌ {A = ℕ} 49 52 = cc in omega arith)
-same_call (Set t) (Begin u) xs ys e = absurd (let z : ◌≡◌ {A = ℕ} 50 49 = cc in omega arith)
-same_call (Set t) (Set u) xs ys e = let z : t ≡ u = cc in ap Set z
-same_call (Set t) (See u) xs ys e = absurd (let z : ◌≡◌ {A = ℕ} 50 51 = cc in omega arith)
-same_call (Set t) Close xs ys e = absurd (let z : ◌≡◌ {A = ℕ} 50 52 = cc in omega arith)
-same_call (See t) (Begin u) xs ys e = absurd (let z : ◌≡◌ {A = ℕ} 51 49 = cc in omega arith)
-same_call (See t) (Set u) xs ys e = absurd (let z : ◌≡◌ {A = ℕ} 51 50 = cc in omega arith)
-same_call (See t) (See u) xs ys e = let z : t ≡ u = cc in ap See z
-same_call (See t) Close xs ys e = absurd (let z : ◌≡◌ {A = ℕ} 51 52 = cc in omega arith)
-same_call Close (Begin u) xs ys e = absurd (let z : ◌≡◌ {A = ℕ} 52 49 = cc in omega arith)
-same_call Close (Set u) xs ys e = absurd (let z : ◌≡◌ {A = ℕ} 52 50 = cc in omega arith)
-same_call Close (See u) xs ys e = absurd (let z : ◌≡◌ {A = ℕ} 52 51 = cc in omega arith)
-same_call Close Close xs ys e = refl
+same_call d c xs ys e = grind arith
 
 -- such a record is not damaged, unless it is the end and a byte stands after it
 undamaged : (bytes : List ℕ) (o : ℕ) (f : BytesFault) → Sound bytes → ((x : ℕ) (more : List ℕ) → bytes ≡ end_code ∷ (x ∷ more) → ⊥) → Damaged log_kinds end_code bytes o f → ⊥
-undamaged bytes o (Unfinished p) s alone (at, inl none) = let e = s.is in let z : ◌≡◌ {A = ℕ} 0 1 = cc in omega arith
+undamaged bytes o (Unfinished p) s alone (at, inl none) = let e = s.is in grind arith
 undamaged bytes o (Unfinished p) s alone (at, inr (code, k, body, is, known, short)) =
     let e = s.is in
-    let same : code ≡ s.code = cc in
-    let rest : body ≡ s.body = cc in
-    let sizes : ◌≡◌ {A = Option ℕ} (Some k) (Some s.size) = sym known ∙ ap (body_length log_kinds) same ∙ s.known in
-    let size : k ≡ s.size = cc in
-    let l = ap length rest in
+    let same = s.known in
     let enough = s.enough in
-    omega arith
-undamaged bytes o (UnknownKind p) s alone (at, (code, more, is, unknown)) =
-    let e = s.is in
-    let same : code ≡ s.code = cc in
-    let none : ◌≡◌ {A = Option ℕ} None (Some s.size) = sym unknown ∙ ap (body_length log_kinds) same ∙ s.known in
-    let z : ◌≡◌ {A = ℕ} 0 1 = cc in
-    omega arith
+    grind arith
+undamaged bytes o (UnknownKind p) s alone (at, (code, more, is, unknown)) = let e = s.is in let same = s.known in grind arith
 undamaged bytes o (AfterEnd p) s alone (at, (x, more, is)) = alone x more is
 
 module _ (bytes : List ℕ) (at : ℕ) where
   -- the record of a call is read as that call
-  entry_call : (c : Call) (rest : List ℕ) → drop at bytes ≡ call_bytes c ++ rest → entry_at bytes at ≡ Ok (Made c (at + length (call_bytes c)))
+  entry_call : (c : Call) (rest : List ℕ) → drop at bytes ≡ call_bytes c ++ rest → entry_at bytes at ≡ Ok (Some (record { call = c; end = at + length (call_bytes c) }))
   entry_call c rest is = by (entry_at bytes at) refl (entry_words bytes at)
     where
-      by : (x : Result Entry BytesFault) → entry_at bytes at ≡ x → EntryInWords bytes at x → entry_at bytes at ≡ Ok (Made c (at + length (call_bytes c)))
-      by (Ok (Made d end)) e w =
-          let same = same_call d c (drop end bytes) rest (sym w.stands ∙ is) in
-          e ∙ ap (λ k. Ok (Made d k)) w.next ∙ ap (λ x. Ok (Made x (at + length (call_bytes x)))) same
-      by (Ok End) e w = absurd (not_end c rest [] (sym is ∙ w))
+      by : (x : Result (Option Made) BytesFault) → entry_at bytes at ≡ x → EntryInWords bytes at x → entry_at bytes at ≡ Ok (Some (record { call = c; end = at + length (call_bytes c) }))
+      by (Ok (Some made)) e w =
+          let same = same_call made.call c (drop made.end bytes) rest (sym w.stands ∙ is) in
+          e ∙ ap (λ k. Ok (Some (record { call = made.call; end = k }))) w.next ∙ ap (λ x. Ok (Some (record { call = x; end = at + length (call_bytes x) }))) same
+      by (Ok None) e w = absurd (not_end c rest [] (sym is ∙ w))
       by (Err f) e w = absurd (undamaged (call_bytes c ++ rest) at f (call_sound c rest) (λ x more e2. not_end c rest (x ∷ more) e2) (subst (λ xs. Damaged log_kinds end_code xs at f) is w))
 
-  entry_end : drop at bytes ≡ end_code ∷ [] → entry_at bytes at ≡ Ok End
+  entry_end : drop at bytes ≡ end_code ∷ [] → entry_at bytes at ≡ Ok None
   entry_end is = by (entry_at bytes at) refl (entry_words bytes at)
     where
-      by : (x : Result Entry BytesFault) → entry_at bytes at ≡ x → EntryInWords bytes at x → entry_at bytes at ≡ Ok End
-      by (Ok (Made d end)) e w = absurd (not_end d (drop end bytes) [] (sym w.stands ∙ is))
-      by (Ok End) e w = e
+      by : (x : Result (Option Made) BytesFault) → entry_at bytes at ≡ x → EntryInWords bytes at x → entry_at bytes at ≡ Ok None
+      by (Ok (Some made)) e w = absurd (not_end made.call (drop made.end bytes) [] (sym w.stands ∙ is))
+      by (Ok None) e w = e
       by (Err f) e w =
           absurd (undamaged (end_code ∷ []) at f (record { code = end_code; size = 0; body = []; is = refl; known = refl; enough = omega arith })
           (λ x more e2. let z : ◌≡◌ {A = ℕ} 0 1 = cc in omega arith) (subst (λ xs. Damaged log_kinds end_code xs at f) is w))

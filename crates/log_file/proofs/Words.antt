@@ -1,5 +1,5 @@
 -- What running a log file comes to, in words. Assumes nothing.
-use Rattle.std.proofs.Common.{◌≡◌, ℕ, ◌<◌, ◌≤◌, List, [], ◌∷◌, ◌++◌, length, take, drop, replicate, Ok, Err, Result, sym, refl, ap, ◌∙◌, subst, arith}
+use Rattle.std.proofs.Common.{◌≡◌, ℕ, ◌<◌, ◌≤◌, List, [], ◌∷◌, ◌++◌, length, take, drop, replicate, Some, None, Ok, Err, Option, Result, sym, refl, ap, ◌∙◌, subst, arith}
 use Rattle.std.proofs.lemmas.List.{append_assoc, flat_map_more, length-append, length_push, length-take-le, replicate_more, take-append-drop, take_at}
 use Rattle.plant.specs.Meaning.{Meaning}
 use Rattle.records.specs.Damage.{Damaged}
@@ -14,9 +14,9 @@ use Rattle.reader.specs.declared.phase.Phase.{Phase}
 use Rattle.reader.proofs.Strings.{answers_push, phase_push}
 use Rattle.log_file.specs.Encoding.{log_kinds, end_code, call_bytes, calls_bytes}
 use Rattle.log_file.specs.Outcome.{CallThere, EntryInWords, Taken, Over, TurnedAway, RanInWords, Ran}
-use Rattle.log_file.specs.Running.{Progress, Ends, entry_at, run_answered, run_entry, run_log}
-use Rattle.log_file.specs.declared.entry.Entry.{Entry}
-use Rattle.log_file.specs.declared.entry.Entry.TheVariants.{Made, End}
+use Rattle.log_file.specs.Running.{Progress, Ends, entry_at, run_answered, run_entry, run_from, run_log}
+use Rattle.log_file.specs.declared.entry.Made.{Made}
+use Rattle.log_file.specs.declared.fault.LogFileFault.{LogFileFault}
 use Rattle.log_file.proofs.Entries.{entry_words}
 use Rattle.log_file.proofs.Steps.{call_some, cut, past}
 use Rattle.log_file.proofs.Whole.{run_over, run_refused}
@@ -80,10 +80,10 @@ module _ (m : Meaning) (rs : List Rule) (before : Phase) (bytes : List ℕ) wher
           omega arith,
         )
 
-    at_entry : (x : Result Entry BytesFault) → EntryInWords bytes at x → View (run_entry m rs p at x)
+    at_entry : (x : Result (Option Made) BytesFault) → EntryInWords bytes at x → View (run_entry m rs p at x)
     at_entry (Err f) damage = stopped (λ calls rest. Damaged log_kinds end_code rest (length (calls_bytes calls)) f) (subst (λ o. Damaged log_kinds end_code (drop at bytes) o f) offset damage)
-    at_entry (Ok End) end = stopped (Over p.taken) (come.number, end)
-    at_entry (Ok (Made c end)) there = at_call c end there (answer m rs p.phase c) refl
+    at_entry (Ok None) end = stopped (Over p.taken) (come.number, end)
+    at_entry (Ok (Some made)) there = at_call made.call made.end there (answer m rs p.phase made.call) refl
 
     view : View (run_entry m rs p at (entry_at bytes at))
     view = at_entry (entry_at bytes at) (entry_words bytes at)
@@ -106,6 +106,6 @@ module _ (m : Meaning) (rs : List Rule) (before : Phase) (bytes : List ℕ) wher
     };
   }
 
-  -- for an answer and a phase that are those computed
-  pub ran : (now_at : Phase) (r : Result ℕ Rattle.log_file.specs.declared.fault.LogFileFault.LogFileFault) → record { answer = r; phase = now_at } ≡ run_log m rs before bytes → Ran m rs before now_at bytes r
-  ran now_at r is = subst (λ (e : Ends). Ran m rs before e.phase bytes e.answer) (sym is) ran_log
+  -- for an answer and a phase that are those computed from the start on
+  pub ran : (now_at : Phase) (r : Result ℕ LogFileFault) (start : ℕ) → record { answer = r; phase = now_at } ≡ run_from m rs bytes (length bytes) (record { phase = before; taken = 0 }) start → start ≡ 0 → Ran m rs before now_at bytes r
+  ran now_at r start is zero = subst (λ (e : Ends). Ran m rs before e.phase bytes e.answer) (sym (is ∙ ap (run_from m rs bytes (length bytes) (record { phase = before; taken = 0 })) zero)) ran_log

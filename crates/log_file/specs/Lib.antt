@@ -1,5 +1,6 @@
 pub mod Encoding
 pub mod Faults
+pub mod Kinds
 pub mod Outcome
 pub mod Running
 pub mod Shown

@@ -1,5 +1,5 @@
 -- What a record of a log file is, and what running a log file answers and leads to, in words. Assumes nothing.
-use Rattle.std.specs.Prelude.{◌≡◌, ℕ, ◌+◌, ◌≤◌, List, [], ◌∷◌, ◌++◌, length, drop, replicate, Ok, Err, Result}
+use Rattle.std.specs.Prelude.{◌≡◌, ℕ, ◌+◌, ◌≤◌, List, [], ◌∷◌, ◌++◌, length, drop, replicate, Some, None, Ok, Err, Option, Result}
 use Rattle.plant.specs.Meaning.{Meaning}
 use Rattle.records.specs.Damage.{Damaged}
 use Rattle.records.specs.declared.BytesFault.{BytesFault}
@@ -11,8 +11,7 @@ use Rattle.reader.specs.declared.fault.LogFault.{LogFault}
 use Rattle.reader.specs.declared.phase.Phase.{Phase}
 use Rattle.log_file.specs.Encoding.{log_kinds, end_code, call_bytes, calls_bytes, log_bytes}
 use Rattle.log_file.specs.Running.{run_log}
-use Rattle.log_file.specs.declared.entry.Entry.{Entry}
-use Rattle.log_file.specs.declared.entry.Entry.TheVariants.{Made, End}
+use Rattle.log_file.specs.declared.entry.Made.{Made}
 use Rattle.log_file.specs.declared.fault.LogFileFault.{LogFileFault}
 use Rattle.log_file.specs.declared.fault.LogFileFault.TheVariants.{Bytes, Refused}
 
@@ -23,9 +22,9 @@ pub record CallThere (bytes : List ℕ) (offset : ℕ) (c : Call) (end : ℕ) : 
   pub within : end ≤ length bytes
 
 -- what stands at an offset: a call, the end and nothing after it, or damage
-abbrev pub EntryInWords : List ℕ → ℕ → Result Entry BytesFault → Type 0
-EntryInWords bytes offset (Ok (Made c end)) = CallThere bytes offset c end
-EntryInWords bytes offset (Ok End) = drop offset bytes ≡ end_code ∷ []
+abbrev pub EntryInWords : List ℕ → ℕ → Result (Option Made) BytesFault → Type 0
+EntryInWords bytes offset (Ok (Some made)) = CallThere bytes offset made.call made.end
+EntryInWords bytes offset (Ok None) = drop offset bytes ≡ end_code ∷ []
 EntryInWords bytes offset (Err f) = Damaged log_kinds end_code (drop offset bytes) offset f
 
 -- the bytes begin with calls that are all taken, one after another, and the reader is in the phase after them;

@@ -1,29 +1,27 @@
 -- What running a log file comes to, as a function of its bytes. Assumes nothing.
-use Rattle.std.specs.Prelude.{ℕ, ◌+◌, cond, List, length, Ok, Err, Result, ◌==◌, nat_lt, slice_index}
+use Rattle.std.specs.Prelude.{ℕ, ◌+◌, cond, List, length, Some, None, Ok, Err, Option, Result, ◌==◌, nat_lt, slice_index}
 use Rattle.plant.specs.Meaning.{Meaning}
-use Rattle.records.specs.Reading.{record_at}
+use Rattle.records.specs.Reading.{Record, record_at}
 use Rattle.records.specs.Running.{Next, over, onward, run_records}
 use Rattle.records.specs.declared.BytesFault.{BytesFault}
 use Rattle.records.specs.declared.BytesFault.TheVariants.{Unfinished, AfterEnd}
-use Rattle.records.specs.declared.Record.{Record}
 use Rattle.rules.specs.declared.Rule.{Rule}
 use Rattle.reader.specs.Step.{Answer, answer, after}
 use Rattle.reader.specs.declared.phase.Phase.{Phase}
 use Rattle.log_file.specs.Encoding.{log_kinds, end_code, call_of}
-use Rattle.log_file.specs.declared.entry.Entry.{Entry}
-use Rattle.log_file.specs.declared.entry.Entry.TheVariants.{Made, End}
+use Rattle.log_file.specs.declared.entry.Made.{Made}
 use Rattle.log_file.specs.declared.fault.LogFileFault.{LogFileFault}
 use Rattle.log_file.specs.declared.fault.LogFileFault.TheVariants.{Bytes, Refused}
 
 -- the record at an offset, if there is one: the end, after which nothing stands, or a call
-abbrev pub entry_found : List ℕ → ℕ → Result Record BytesFault → Result Entry BytesFault
+abbrev pub entry_found : List ℕ → ℕ → Result Record BytesFault → Result (Option Made) BytesFault
 entry_found bytes at (Err f) = Err f
 entry_found bytes at (Ok r) =
     cond (r.code == end_code)
-    (cond (nat_lt r.end (length bytes)) (Err (AfterEnd r.end)) (Ok End))
-    (Ok (Made (call_of r.code (slice_index bytes (at + 1))) r.end))
+    (cond (nat_lt r.end (length bytes)) (Err (AfterEnd r.end)) (Ok None))
+    (Ok (Some (record { call = call_of r.code (slice_index bytes (at + 1)); end = r.end })))
 
-abbrev pub entry_at : List ℕ → ℕ → Result Entry BytesFault
+abbrev pub entry_at : List ℕ → ℕ → Result (Option Made) BytesFault
 entry_at bytes at = entry_found bytes at (record_at bytes log_kinds at)
 
 -- how far a run has come: the phase of the reader, and how many calls were taken
@@ -47,10 +45,10 @@ run_answered p next at end (Ok done) = onward (record { phase = next; taken = p.
 run_answered p next at end (Err f) = over (record { answer = Err (Refused at f); phase = p.phase })
 
 -- the record at an offset: what is wrong with it, the end, or a call
-abbrev pub run_entry : Meaning → List Rule → Progress → ℕ → Result Entry BytesFault → Next Progress Ends
+abbrev pub run_entry : Meaning → List Rule → Progress → ℕ → Result (Option Made) BytesFault → Next Progress Ends
 run_entry m rs p at (Err f) = over (record { answer = Err (Bytes f); phase = p.phase })
-run_entry m rs p at (Ok End) = over (record { answer = Ok p.taken; phase = p.phase })
-run_entry m rs p at (Ok (Made c end)) = run_answered p (after m rs p.phase c) at end (answer m rs p.phase c)
+run_entry m rs p at (Ok None) = over (record { answer = Ok p.taken; phase = p.phase })
+run_entry m rs p at (Ok (Some made)) = run_answered p (after m rs p.phase made.call) at made.end (answer m rs p.phase made.call)
 
 -- the run from an offset on; each record takes a byte at least, so as many records as bytes are enough
 abbrev pub run_from : Meaning → List Rule → List ℕ → ℕ → Progress → ℕ → Ends

@@ -19,6 +19,7 @@ pub enum LogFileFault {
 
 impl LogFileFault {
     // The fault's number, place and layer: those of the fault inside.
+    // A method and no `From`: of some faults there is no refusal, and one name asks all of them.
     pub fn refusal(&self) -> Refusal
         ensures { result ≡ log_file_refusal self.now }
     {
@@ -41,6 +42,7 @@ impl fmt::Display for LogFileFault {
     }
 }
 
+// Written by hand: clauses name what `?` makes of a fault, and a derive gives no such fact.
 impl From<BytesFault> for LogFileFault {
     ghost from_gives = { λ f r. r ≡ Bytes f };
 

@@ -3,8 +3,9 @@
 
 mod entry;
 mod fault;
+mod kind;
 mod run;
 
-pub use entry::{Entry, entry_at};
+pub use entry::{Made, entry_at};
 pub use fault::LogFileFault;
 pub use run::run_log;

@@ -3,7 +3,7 @@ use Rattle.std.proofs.Common.{◌≡◌, ℕ, ◌<◌, Bool, true, false, not, �
 use Rattle.std.proofs.lemmas.Bool.{and_parts, and_from, or_parts, not-true, not_from_false, ltb-true, leb-true, eqb-true}
 use Rattle.plant.specs.Conditions.{holds, pair_word}
 use Rattle.plant.specs.Meaning.{Meaning, Within}
-use Rattle.plant.specs.Tests.{some_of}
+use Rattle.std.specs.List.{list_any}
 use Rattle.plant.specs.declared.condition.Condition.{Condition}
 use Rattle.draft.specs.Rows.{open_in, rows_of}
 use Rattle.draft.proofs.Largest.{rows_filled}
@@ -26,11 +26,11 @@ module _ (m : Meaning) (within : Within m) where
     abbrev here : Condition → Bool
     here ban = holds ban (pair_word m.bits s a)
 
-    parts : (m.safe s a ≡ true) × (not (some_of here (first ++ second)) ≡ true)
-    parts = and_parts (m.safe s a) (not (some_of here (first ++ second))) safe
+    parts : (m.safe s a ≡ true) × (not (list_any here (first ++ second)) ≡ true)
+    parts = and_parts (m.safe s a) (not (list_any here (first ++ second))) safe
 
-    none : (some_of here first ≡ false) × (some_of here second ≡ false)
-    none = or_parts (some_of here first) (some_of here second) (sym (some_joined here first second) ∙ not-true (some_of here (first ++ second)) parts.1)
+    none : (list_any here first ≡ false) × (list_any here second ≡ false)
+    none = or_parts (list_any here first) (list_any here second) (sym (some_joined here first second) ∙ not-true (list_any here (first ++ second)) parts.1)
 
     safe_under_first : (banned_meaning m first).safe s a ≡ true
     safe_under_first = and_from (m.safe s a) _ parts.0 (not_from_false _ none.0)

@@ -7,13 +7,12 @@ use mathlib.Core.List.{Memᴰ}
 use Rattle.std.proofs.lemmas.Nat.{and_le_r, or_lt}
 use Rattle.std.proofs.lemmas.Bool.{and_parts, and_from, or_cases, or_left, or_right, eqb-true, eq-eqb, both_ways, not-true, not_from_false, cases_Bool}
 use Rattle.plant.specs.Bits.{bit}
-use Rattle.plant.specs.Tests.{some_of}
+use Rattle.std.specs.List.{list_any}
 use Rattle.plant.proofs.Bits.{bit_of_and, bit_of_or, no_bits, same_bits, below_pow}
 use Rattle.plant.proofs.Bounded.{same_tests, false_when_not}
 use Rattle.plant.proofs.Tests.{same_decides, some_decides}
-use Rattle.records.specs.Reading.{record_at}
+use Rattle.records.specs.Reading.{Record, record_at}
 use Rattle.records.specs.declared.BytesFault.{BytesFault}
-use Rattle.records.specs.declared.Record.{Record}
 use Rattle.plan.specs.Admitted.{Admitted, Clash, ClashFree}
 use Rattle.plan.specs.Depends.{Depends, LoopFree}
 use Rattle.plan.specs.Depends.Depends.{directly, through as by_way_of}
@@ -32,7 +31,7 @@ use Rattle.plan.specs.declared.plan.Plan.{Plan}
 use Rattle.plan.proofs.Depending.{Below, none_loops, reached_decides}
 use Rattle.plan.proofs.Fitting.{fitting, followed}
 use Rattle.plan.proofs.Forming.{formed_more, one_more, Passed, through}
-use Rattle.plan.proofs.Judge.{err_ok}
+use Rattle.records.proofs.Finding.{err_ok}
 use Rattle.plan.proofs.Sizing.{limits_from}
 use Rattle.plan.proofs.Words.{plan_words}
 
@@ -93,7 +92,7 @@ clash_turned : (c d : Clause) → Clash c d → Clash d c
 clash_turned c d h = record { letter = sym h.letter; opposite = λ e. h.opposite (sym e); together = (h.together.0, h.together.2, h.together.1) }
 
 -- one clause more that clashes with none before it
-pub free_more : (b : Bool) (cs : List Clause) (c : Clause) → (b ≡ true → some_of (clash c) cs ≡ false) → ClashFree cs → ClashFree (cond b (cs ++ (c ∷ [])) cs)
+pub free_more : (b : Bool) (cs : List Clause) (c : Clause) → (b ≡ true → list_any (clash c) cs ≡ false) → ClashFree cs → ClashFree (cond b (cs ++ (c ∷ [])) cs)
 free_more b cs c none free x y in_x in_y h =
     ⊎_elim
     (λ new_x. ⊎_elim
@@ -107,7 +106,7 @@ free_more b cs c none free x y in_x in_y h =
     (one_more b cs c in_x)
   where
     fails : b ≡ true → (d : Clause) → Memᴰ d cs → Clash c d → ⊥
-    fails is d here bad = both_ways (some_of (clash c) cs) (none is) ((some_decides (clash c) cs).1 (d, here, (clash_decides c d).1 bad))
+    fails is d here bad = both_ways (list_any (clash c) cs) (none is) ((some_decides (clash c) cs).1 (d, here, (clash_decides c d).1 bad))
 
 -- what was read so far: well-formed, and where no clash was noted, free of clashes
 pub record Good (s : Seen) : Type 0 where
@@ -122,13 +121,13 @@ earlier_none (Some y) t o e = let z : ◌≡◌ {A = ℕ} 0 1 = cc in absurd (om
 earlier_none None true o e = let z : ◌≡◌ {A = ℕ} 0 1 = cc in absurd (omega arith)
 earlier_none None false o e = (refl, refl)
 
-clashes_2 : (p : Parts) (code : ℕ) (c : Clause) → clashes_with p code c ≡ false → eqb code 2 ≡ true → some_of (clash c) p.starts ≡ false
+clashes_2 : (p : Parts) (code : ℕ) (c : Clause) → clashes_with p code c ≡ false → eqb code 2 ≡ true → list_any (clash c) p.starts ≡ false
 clashes_2 p code c none is = subst (λ k. clashes_with p k c ≡ false) (eqb-true code 2 is) none
 
-clashes_3 : (p : Parts) (code : ℕ) (c : Clause) → clashes_with p code c ≡ false → eqb code 3 ≡ true → some_of (clash c) p.nexts ≡ false
+clashes_3 : (p : Parts) (code : ℕ) (c : Clause) → clashes_with p code c ≡ false → eqb code 3 ≡ true → list_any (clash c) p.nexts ≡ false
 clashes_3 p code c none is = subst (λ k. clashes_with p k c ≡ false) (eqb-true code 3 is) none
 
-clashes_4 : (p : Parts) (code : ℕ) (c : Clause) → clashes_with p code c ≡ false → eqb code 4 ≡ true → some_of (clash c) p.auxes ≡ false
+clashes_4 : (p : Parts) (code : ℕ) (c : Clause) → clashes_with p code c ≡ false → eqb code 4 ≡ true → list_any (clash c) p.auxes ≡ false
 clashes_4 p code c none is = subst (λ k. clashes_with p k c ≡ false) (eqb-true code 4 is) none
 
 good_more : (bs : List ℕ) (s : Seen) (o code : ℕ) → item_fits s.parts.bits s.parts.lines s.parts.auxiliaries bs o code ≡ true → Good s → Good (kept s o code (clause_at bs o code))

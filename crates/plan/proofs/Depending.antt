@@ -1,6 +1,7 @@
 -- The computed test for a letter that depends on itself, in words. Assumes nothing.
 use Rattle.std.proofs.Common.{◌≡◌, ℕ, zero, suc, ◌+◌, ◌^◌, ◌<◌, ◌≤◌, Bool, true, false, cond, eqb, ◌⊎◌, List, [], ◌∷◌, Some, None, Decides, sym, refl, ap, ◌∙◌, subst, inl, inr, ⊎_elim, arith}
 use lib.Bits.{bit_or}
+use Rattle.std.specs.List.{filter, fold}
 use mathlib.Core.List.Memᴰ
 use mathlib.Core.List.{Memᴰ}
 use Rattle.std.proofs.lemmas.Nat.{or_lt}
@@ -18,9 +19,17 @@ use Rattle.plan.proofs.Words.{bit_letter}
 abbrev pub named : Clause → ℕ
 named c = bit_or c.condition.ones c.condition.zeros
 
+-- what a first clause adds, and then the others
+gathered_more : (c : Clause) (cs : List Clause) (roots found : ℕ) → gathered (c ∷ cs) roots found ≡ gathered cs roots (cond (bit roots c.letter) (bit_or found (named c)) found)
+gathered_more c cs roots found = by (filter (λ (d : Clause). bit roots d.letter) cs) (bit roots c.letter)
+  where
+    by : (ds : List Clause) (b : Bool) → fold (λ all d. bit_or all (named d)) found (cond b (c ∷ ds) ds) ≡ fold (λ all d. bit_or all (named d)) (cond b (bit_or found (named c)) found) ds
+    by ds true = refl
+    by ds false = refl
+
 gathered_keeps : (cs : List Clause) (roots found k : ℕ) → bit found k ≡ true → bit (gathered cs roots found) k ≡ true
 gathered_keeps [] roots found k has = has
-gathered_keeps (c ∷ cs) roots found k has = gathered_keeps cs roots _ k (by (bit roots c.letter))
+gathered_keeps (c ∷ cs) roots found k has = ap (λ x. bit x k) (gathered_more c cs roots found) ∙ gathered_keeps cs roots _ k (by (bit roots c.letter))
   where
     by : (b : Bool) → bit (cond b (bit_or found (named c)) found) k ≡ true
     by true = bit_of_or found (named c) k ∙ or_left _ _ has
@@ -29,7 +38,7 @@ gathered_keeps (c ∷ cs) roots found k has = gathered_keeps cs roots _ k (by (b
 gathered_adds : (cs : List Clause) (roots found k : ℕ) (c : Clause) → Memᴰ c cs → bit roots c.letter ≡ true → bit (named c) k ≡ true → bit (gathered cs roots found) k ≡ true
 gathered_adds [] roots found k c here on has = absurd (Memᴰ.not-nil here)
 gathered_adds (d ∷ cs) roots found k c here on has =
-    ⊎_elim
+    ap (λ x. bit x k) (gathered_more d cs roots found) ∙ ⊎_elim
     (λ is.
     let on_d : bit roots d.letter ≡ true = subst (λ (z : Clause). bit roots z.letter ≡ true) is on in
     let has_d : bit (named d) k ≡ true = subst (λ (z : Clause). bit (named z) k ≡ true) is has in
@@ -41,7 +50,7 @@ gathered_adds (d ∷ cs) roots found k c here on has =
 gathered_only : (cs : List Clause) (roots found k : ℕ) → bit (gathered cs roots found) k ≡ true → (bit found k ≡ true) ⊎ ((c : Clause) × Memᴰ c cs × (bit roots c.letter ≡ true) × (bit (named c) k ≡ true))
 gathered_only [] roots found k has = inl has
 gathered_only (d ∷ cs) roots found k has =
-    ⊎_elim (λ old. by (bit roots d.letter) refl old) (λ w. inr (w.0, Memᴰ.tail w.1, w.2, w.3)) (gathered_only cs roots _ k has)
+    ⊎_elim (λ old. by (bit roots d.letter) refl old) (λ w. inr (w.0, Memᴰ.tail w.1, w.2, w.3)) (gathered_only cs roots _ k (sym (ap (λ x. bit x k) (gathered_more d cs roots found)) ∙ has))
   where
     by : (b : Bool) → bit roots d.letter ≡ b → bit (cond b (bit_or found (named d)) found) k ≡ true → (bit found k ≡ true) ⊎ ((c : Clause) × Memᴰ c (d ∷ cs) × (bit roots c.letter ≡ true) × (bit (named c) k ≡ true))
     by true on e = ⊎_elim (λ old. inl old) (λ new. inr (d, Memᴰ.head refl, on, new)) (or_cases (bit found k) (bit (named d) k) (sym (bit_of_or found (named d) k) ∙ e))
@@ -53,7 +62,7 @@ Below n cs = (c : Clause) → Memᴰ c cs → named c < 2 ^ n
 
 gathered_small : (n : ℕ) (cs : List Clause) (roots found : ℕ) → Below n cs → found < 2 ^ n → gathered cs roots found < 2 ^ n
 gathered_small n [] roots found small lt = lt
-gathered_small n (c ∷ cs) roots found small lt = gathered_small n cs roots _ (λ d here. small d (Memᴰ.tail here)) (by (bit roots c.letter))
+gathered_small n (c ∷ cs) roots found small lt = subst (λ x. x < 2 ^ n) (sym (gathered_more c cs roots found)) (gathered_small n cs roots _ (λ d here. small d (Memᴰ.tail here)) (by (bit roots c.letter)))
   where
     by : (b : Bool) → cond b (bit_or found (named c)) found < 2 ^ n
     by true = or_lt n found (named c) lt (small c (Memᴰ.head refl))

@@ -4,10 +4,9 @@ use mathlib.Core.List.Memᴰ
 use Rattle.std.specs.List.{flat_map}
 use Rattle.std.proofs.lemmas.List.{append_assoc, drop_all, drop_at, drop-drop, flat_map_more, length-append, length_push, nil_from_length}
 use Rattle.std.proofs.lemmas.Bool.{cond-true, cond-false, eqb-true, eqb-false, le-ltb, lt-ltb, lt-leb, leb-true, leb-false, both_ways}
-use Rattle.records.specs.Reading.{record_at, body_length}
+use Rattle.records.specs.Reading.{Record, body_length, record_at}
 use Rattle.records.specs.declared.BytesFault.{BytesFault}
 use Rattle.records.specs.declared.BytesFault.TheVariants.{AfterEnd}
-use Rattle.records.specs.declared.Record.{Record}
 use Rattle.records.proofs.Standing.{Standing, standing, byte_there}
 use Rattle.records.proofs.Standing.Standing.{nothing, strange, short, whole}
 use Rattle.plan.specs.Depends.{LoopFree}

@@ -4,11 +4,11 @@ use mathlib.Core.List.{Memᴰ}
 use Rattle.std.proofs.lemmas.Nat.{div_below, mul-add-lt, pow-add, pow_pos, div-add-mod'}
 use Rattle.std.proofs.lemmas.Bool.{and_parts, and_from, eqb-true, eq-eqb, both_ways, cases_Bool, cases_lt, cond-true, cond-false, lt-ltb, le-ltb}
 use Rattle.plant.specs.Bits.{bit, pack}
-use Rattle.plan.specs.Clauses.{holds, Holds}
-use Rattle.plant.specs.Tests.{some_of}
+use Rattle.plant.specs.Conditions.{holds, Holds}
+use Rattle.std.specs.List.{list_any}
 use Rattle.plant.proofs.Bits.{bit_beyond, bit_pack, more_bits, pack_small, same_prefix}
 use Rattle.plant.proofs.Bounded.{same_tests}
-use Rattle.plan.proofs.Words.{holds_decides}
+use Rattle.plant.proofs.Conditions.{holds_decides}
 use Rattle.plant.proofs.Tests.{some_decides}
 use Rattle.plan.specs.Admitted.{ClashFree}
 use Rattle.plan.specs.Depends.{Names, Depends, LoopFree}
@@ -25,7 +25,7 @@ picks w i c = (eqb c.letter i && c.value) && holds c.condition w
 
 -- the value of a letter by the clauses that give it 1
 abbrev chosen : List Clause → ℕ → ℕ → Bool
-chosen cs w i = some_of (picks w i) cs
+chosen cs w i = list_any (picks w i) cs
 
 -- without clashes, that is the value of every clause whose condition holds
 chosen_value : (cs : List Clause) → ClashFree cs → (w : ℕ) (c : Clause) → Memᴰ c cs → Holds c.condition w → chosen cs w c.letter ≡ c.value

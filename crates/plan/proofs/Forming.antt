@@ -3,11 +3,10 @@ use Rattle.std.proofs.Common.{◌≡◌, ℕ, zero, suc, ◌+◌, ◌^◌, ◌<�
 use mathlib.Core.List.Memᴰ
 use mathlib.Core.List.{Memᴰ}
 use Rattle.std.proofs.lemmas.Bool.{and_parts, eqb-true, leb-true, ltb-true}
-use Rattle.records.specs.Reading.{record_at}
+use Rattle.records.specs.Reading.{Record, record_at}
 use Rattle.records.specs.declared.BytesFault.{BytesFault}
 use Rattle.records.specs.declared.BytesFault.TheVariants.{Unfinished, AfterEnd}
-use Rattle.records.specs.declared.Record.{Record}
-use Rattle.plan.specs.declared.clause.Condition.{Condition}
+use Rattle.plant.specs.declared.condition.Condition.{Condition}
 use Rattle.plan.specs.Formed.{WellFormed, WithinLetters, letters}
 use Rattle.plan.specs.Items.{always, clause_at, item_fits}
 use Rattle.plan.specs.Judging.{Seen, plan_kinds, with_clause, kept, judge_clash, judge_end, judge_found, judge_from, judge_loop, judge_record, judge_whole, go_on, most_clauses}
@@ -16,7 +15,7 @@ use Rattle.plan.specs.Machine.{Parts}
 use Rattle.plan.specs.declared.clause.Clause.{Clause}
 use Rattle.plan.specs.declared.fault.PlanFault.{PlanFault}
 use Rattle.plan.specs.declared.fault.PlanFault.TheVariants.{Bytes, HeadMisplaced, TooManyClauses, Malformed, Loop, Clash}
-use Rattle.plan.proofs.Judge.{err_ok}
+use Rattle.records.proofs.Finding.{err_ok}
 
 -- what is in a list that may have one element more
 pub one_more : {X : Type 0} (b : Bool) (xs : List X) (y : X) {x : X} → Memᴰ x (cond b (xs ++ (y ∷ [])) xs) → ((b ≡ true) × (x ≡ y)) ⊎ Memᴰ x xs

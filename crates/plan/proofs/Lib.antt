@@ -1,4 +1,5 @@
 pub mod Admitting
+pub mod Codes
 pub mod Depending
 pub mod Firsts
 pub mod Exact

@@ -4,10 +4,9 @@ use mathlib.Core.List.{Memᴰ}
 use Rattle.std.specs.List.{flat_map}
 use Rattle.std.proofs.lemmas.List.{append_assoc, append-nil, drop_at, drop-drop, length-append, length_push, take_at}
 use Rattle.std.proofs.lemmas.Bool.{cond-true, cond-false, eqb-false, ne_eqb, le-ltb, lt-ltb, le-leb, lt-leb}
-use Rattle.records.specs.Reading.{record_at}
+use Rattle.records.specs.Reading.{Record, record_at}
 use Rattle.records.specs.declared.BytesFault.{BytesFault}
 use Rattle.records.specs.declared.BytesFault.TheVariants.{Unfinished, UnknownKind}
-use Rattle.records.specs.declared.Record.{Record}
 use Rattle.records.proofs.Standing.{Standing, standing, read_so, byte_there}
 use Rattle.records.proofs.Standing.Standing.{nothing, strange, short, whole}
 use Rattle.plan.specs.Items.{byte, item_fits}
@@ -16,7 +15,7 @@ use Rattle.plan.specs.Machine.{Parts}
 use Rattle.plan.specs.Held.{parts_of}
 use Rattle.plan.specs.Kept.{AsExpected, HasItem, Spared}
 use Rattle.plan.specs.declared.plan.Plan.{Plan}
-use Rattle.plan.specs.Refused.{Exactly, Stores, Told, ClauseKind, NextAt, ReadTo, Refused, Whole}
+use Rattle.plan.specs.Refused.{Stores, Told, ClauseKind, NextAt, ReadTo, Refused, Whole}
 use Rattle.plan.specs.Refused.Refused.{no_byte, cut_short, unknown, no_head, second_head, sizes, too_many, malformed, after_end, loop, clash}
 use Rattle.plan.specs.Sizes.{sizes_fit}
 use Rattle.plan.specs.Written.{Item, Written, Formed, InOrder, Limits, WellWritten, front, plan_bytes, item_bytes, parts_from}
@@ -24,7 +23,9 @@ use Rattle.plan.specs.declared.fault.PlanFault.{PlanFault}
 use Rattle.plan.specs.declared.fault.PlanFault.TheVariants.{Bytes, HeadMisplaced, SizeLimits, TooManyClauses, Malformed, Loop, Clash, Memory}
 use Rattle.plan.proofs.Firsts.{finds_loop, finds_none, one_first, first_in_the_way}
 use Rattle.plan.proofs.Exact.{Outcome, head_is, judged_told, paper, Sofar, Noted, not_end, noted_with, seen, sofar_more, sofar_none, taken}
-use Rattle.plan.proofs.Judge.{at_end, at_fault, at_more, at_refused, err_ok}
+use Rattle.plan.proofs.Judge.{at_end, at_fault, at_more, at_refused}
+use Rattle.records.proofs.Finding.{err_ok}
+use Rattle.plan.proofs.Storing.{pleads_for}
 use Rattle.plan.proofs.Sizing.{limits_from, sizes_from}
 use Rattle.plan.proofs.Writing.{body_of, kind_body, known_kind, kind_of, item_from}
 
@@ -253,7 +254,7 @@ stores_so bs small h =
 
 -- what is promised of reading, from what it is equal to
 module _ (bs : List ℕ) (small : (i : ℕ) → byte bs i < 256) where
-  told_so : (r : Result Plan PlanFault) → AsExpected (judge bs) parts_of r → Spared (HasItem bs) r → Told bs r
+  pub told_so : (r : Result Plan PlanFault) → AsExpected (judge bs) parts_of r → Spared (HasItem bs) r → Told bs r
   told_so (Ok x) is spared = subst (Outcome bs) is (judged_told bs small)
   told_so (Err (Bytes f)) is spared = inr (subst (Outcome bs) is (judged_told bs small))
   told_so (Err (HeadMisplaced o)) is spared = inr (subst (Outcome bs) is (judged_told bs small))
@@ -267,18 +268,10 @@ module _ (bs : List ℕ) (small : (i : ℕ) → byte bs i < 256) where
   -- want of memory is pleaded only where there is something to store
   pub read_spared : (r : Result Plan PlanFault) → Spared (HasItem bs) r → Spared (Stores bs) r
   read_spared (Ok x) spared = tt
-  read_spared (Err (Bytes f)) spared = tt
-  read_spared (Err (HeadMisplaced o)) spared = tt
-  read_spared (Err SizeLimits) spared = tt
-  read_spared (Err (TooManyClauses o)) spared = tt
-  read_spared (Err (Malformed o)) spared = tt
-  read_spared (Err (Loop l)) spared = tt
-  read_spared (Err (Clash o)) spared = tt
-  read_spared (Err Memory) spared = stores_so bs small spared
+  read_spared (Err f) spared = pleads_for (HasItem bs) (Stores bs) (stores_so bs small) f spared
 
-  pub read_exactly : (r : Result Plan PlanFault) → AsExpected (judge bs) parts_of r → Spared (HasItem bs) r → Exactly bs r
-  read_exactly r is spared = record {
-    told = told_so r is spared;
-    admits = λ w written order. subst (λ (e : Result Parts PlanFault). AsExpected e parts_of r) (admitted_so bs w written order) is;
-    refuses = λ f refused. subst (λ (e : Result Parts PlanFault). AsExpected e parts_of r) (refused_so bs small f refused) is;
-  }
+  pub read_admits : (r : Result Plan PlanFault) → AsExpected (judge bs) parts_of r → (w : Written) → bs ≡ plan_bytes w → InOrder w → AsExpected (Ok (parts_from w)) parts_of r
+  read_admits r is w written order = subst (λ (e : Result Parts PlanFault). AsExpected e parts_of r) (admitted_so bs w written order) is
+
+  pub read_refuses : (r : Result Plan PlanFault) → AsExpected (judge bs) parts_of r → (f : PlanFault) → Refused bs f → AsExpected {X = Plan} {Y = Parts} (Err f) parts_of r
+  read_refuses r is f refused = subst (λ (e : Result Parts PlanFault). AsExpected e parts_of r) (refused_so bs small f refused) is

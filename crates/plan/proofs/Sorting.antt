@@ -2,11 +2,10 @@
 use Rattle.std.proofs.Common.{◌≡◌, ℕ, ◌<◌, true, false, List, [], ◌∷◌, ◌++◌, Decides, sym, refl, ap, ◌∙◌, subst, ⊎_elim}
 use mathlib.Core.List.Memᴰ
 use mathlib.Core.List.{Memᴰ}
-use Rattle.std.specs.List.{flat_map}
+use Rattle.std.specs.List.{flat_map, list_any}
 use Rattle.std.proofs.lemmas.List.{append-nil, flat_map_more}
 use Rattle.std.proofs.lemmas.Bool.{false≢true}
-use Rattle.plant.specs.Tests.{some_of}
-use Rattle.plan.specs.declared.clause.Condition.{Condition}
+use Rattle.plant.specs.declared.condition.Condition.{Condition}
 use Rattle.plant.proofs.Tests.{some_decides}
 use Rattle.plan.specs.Admitted.{ClashFree}
 use Rattle.plan.specs.Formed.{WellFormed}
@@ -103,7 +102,7 @@ module _ (b n m : ℕ) (items : List Item) where
       cc
 
   -- the computed test for a clash with an item before, in words
-  some_clash : (c : Clause) (ds : List Clause) → Decides (some_of (clash c) ds) (ClashesIn ds c)
+  some_clash : (c : Clause) (ds : List Clause) → Decides (list_any (clash c) ds) (ClashesIn ds c)
   some_clash c ds =
       let d = some_decides (clash c) ds in
       (λ e. let w = d.0 e in (w.0, w.1, (clash_decides c w.0).0 w.2), λ w. d.1 (w.0, w.1, (clash_decides c w.0).1 w.2))

@@ -1,14 +1,13 @@
 -- Where want of memory may be pleaded: a record has to be stored. Assumes nothing.
 use Rattle.std.proofs.Common.{◌≡◌, ℕ, ◌≤◌, eqb, ◌⊎◌, List, Ok, sym, ◌∙◌, subst, inl, inr, ⊎_elim, arith}
 use Rattle.std.proofs.lemmas.Bool.{cases_eq, cond-true, eq-eqb}
-use Rattle.records.specs.Reading.{record_at}
-use Rattle.records.specs.declared.Record.{Record}
+use Rattle.records.specs.Reading.{Record, record_at}
 use Rattle.plan.specs.Judging.{Seen, judge_record, plan_kinds}
 use Rattle.plan.specs.Kept.{FirstStorable, Pleads, Storable}
 use Rattle.plan.specs.declared.fault.PlanFault.{PlanFault}
 use Rattle.plan.specs.declared.fault.PlanFault.TheVariants.{Bytes, HeadMisplaced, SizeLimits, TooManyClauses, Malformed, Loop, Clash, Memory}
 use Rattle.plan.proofs.Forming.{kept_fits}
-use Rattle.plan.proofs.Judge.{err_ok}
+use Rattle.records.proofs.Finding.{err_ok}
 
 -- a record that was kept had to be stored
 pub kept_storable : (bs : List ℕ) (s t : Seen) (o code : ℕ) → 1 ≤ code → code ≤ 5 → judge_record bs s o code ≡ Ok t → Storable s bs o code

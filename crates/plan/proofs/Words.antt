@@ -1,41 +1,22 @@
 -- What a clause plan means, in words. Assumes nothing.
-use Rattle.std.proofs.Common.{◌≡◌, ℕ, ◌^◌, ◌<◌, Bool, true, false, cond, not, ◌&&◌, eqb, ltb, List, [], ◌∷◌, Decides, sym, refl, ap, ◌∙◌, subst, ⊎_elim, arith}
-use lib.Bits.{bit_and}
+use Rattle.std.proofs.Common.{◌≡◌, ℕ, ◌^◌, ◌<◌, Bool, true, false, cond, not, ◌&&◌, eqb, ltb, List, [], ◌∷◌, Decides, sym, refl, ap, ◌∙◌, subst, ⊎_elim}
 use mathlib.Core.List.Memᴰ
 use mathlib.Core.List.{Memᴰ}
-use Rattle.std.proofs.lemmas.Nat.{and_le_r}
-use Rattle.std.proofs.lemmas.Bool.{and_parts, and_from, and_cases, or_cases, or_left, or_right, eqb-true, eq-eqb, both_ways, cases_Bool, not-true, not_from_false, lt-ltb, cond-true}
+use Rattle.std.proofs.lemmas.Bool.{and_parts, and_from, or_cases, or_left, or_right, eqb-true, eq-eqb, both_ways, cases_Bool, not-true, not_from_false, lt-ltb, cond-true}
 use Rattle.plant.specs.Bits.{bit}
-use Rattle.plant.specs.Tests.{same, all_of}
-use Rattle.plan.specs.declared.clause.Condition.{Condition}
-use Rattle.plant.proofs.Bits.{bit_of_and, bit_of_or, bit_power, same_bits, below_pow, no_bits}
-use Rattle.plant.proofs.Bounded.{decides_all, decides_any, same_tests, false_when_not}
+use Rattle.plant.specs.Tests.{same}
+use Rattle.std.specs.List.{filter, fold, list_all}
+use Rattle.plant.specs.declared.condition.Condition.{Condition}
+use Rattle.plant.proofs.Bits.{bit_of_or, bit_power, no_bits}
+use Rattle.plant.proofs.Bounded.{decides_all, decides_any, false_when_not}
+use Rattle.plant.proofs.Conditions.{holds_decides}
 use Rattle.plant.proofs.Tests.{same_decides, some_decides}
-use Rattle.plan.specs.Clauses.{holds, Holds, clause_true, ClauseTrue}
+use Rattle.plant.specs.Conditions.{holds, Holds}
+use Rattle.plan.specs.Clauses.{clause_true, ClauseTrue}
 use Rattle.plan.specs.Extension.{letter_mask, with_letter, forced}
+use Rattle.plan.specs.Items.{always}
 use Rattle.plan.specs.Machine.{Parts, Fits, PlanWords, plan_meaning, extension, fits_word, banned, allows, is_pair}
 use Rattle.plan.specs.declared.clause.Clause.{Clause}
-
--- a condition that holds, letter by letter
-pub holds_decides : (c : Condition) (w : ℕ) → Decides (holds c w) (Holds c w)
-holds_decides c w = (
-  λ e.
-      let parts = and_parts _ _ e in
-      let ones = eqb-true _ _ parts.0 in
-      let zeros = eqb-true _ _ parts.1 in
-      record {
-        on = λ i has. (and_parts (bit w i) _ (sym (bit_of_and w c.ones i) ∙ ap (λ x. bit x i) ones ∙ has)).0;
-        off = λ i has.
-            ⊎_elim (λ f. f) (λ f. absurd (both_ways (bit c.zeros i) f has))
-            (and_cases (bit w i) (bit c.zeros i) (sym (bit_of_and w c.zeros i) ∙ ap (λ x. bit x i) zeros ∙ no_bits i));
-      },
-  λ h.
-      and_from _ _
-      (eq-eqb _ _ (same_bits (bit_and w c.ones) c.ones c.ones (let l = and_le_r w c.ones in let b = below_pow c.ones in omega arith) (below_pow c.ones)
-      (λ i _. bit_of_and w c.ones i ∙ same_tests _ _ (λ e. (and_parts (bit w i) (bit c.ones i) e).1) (λ e. and_from _ _ (h.on i e) e))))
-      (eq-eqb _ _ (same_bits (bit_and w c.zeros) 0 c.zeros (let l = and_le_r w c.zeros in let b = below_pow c.zeros in omega arith) (let b = below_pow c.zeros in omega arith)
-      (λ i _. bit_of_and w c.zeros i ∙ same_tests _ _ (λ e. let p = and_parts (bit w i) (bit c.zeros i) e in absurd (both_ways _ (h.off i p.1) p.0)) (λ e. absurd (both_ways _ (no_bits i) e))))),
-)
 
 clause_decides : (w : ℕ) (c : Clause) → Decides (clause_true w c) (ClauseTrue w c)
 clause_decides w c =
@@ -52,12 +33,12 @@ clause_decides w c =
     )
 
 -- a test of all elements, in words
-all_decides : {X : Type 0} (p : X → Bool) (P : X → Type 0) → ((x : X) → Decides (p x) (P x)) → (xs : List X) → Decides (all_of p xs) ((x : X) → Memᴰ x xs → P x)
+all_decides : {X : Type 0} (p : X → Bool) (P : X → Type 0) → ((x : X) → Decides (p x) (P x)) → (xs : List X) → Decides (list_all p xs) ((x : X) → Memᴰ x xs → P x)
 all_decides p P each [] = (λ _ x here. absurd (Memᴰ.not-nil here), λ _. refl)
 all_decides {X} p P each (x ∷ xs) =
     let rest = all_decides p P each xs in (
       λ e y here.
-          let parts = and_parts (p x) (all_of p xs) e in
+          let parts = and_parts (p x) (list_all p xs) e in
           ⊎_elim (λ is. subst (λ (z : X). P z) (sym is) ((each x).0 parts.0)) (λ later. rest.0 parts.1 y later) (Memᴰ.cases_cons here),
       λ all. and_from _ _ ((each x).1 (all x (Memᴰ.head refl))) (rest.1 (λ y here. all y (Memᴰ.tail here))),
     )
@@ -68,23 +49,19 @@ fits_decides p w = all_decides (clause_true w) (ClauseTrue w) (clause_decides w)
 pub bit_letter : (l i : ℕ) → l < 32 → bit (letter_mask l) i ≡ eqb i l
 bit_letter l i lt = ap (λ x. bit x i) (cond-true (ltb l 32) (2 ^ l) 0 (lt-ltb l 32 lt)) ∙ bit_power l i
 
--- a pair of masks as a condition
-abbrev of_masks : ℕ × ℕ → Condition
-of_masks masks = record { ones = masks.0; zeros = masks.1 }
-
-with_decides : (v : Bool) (l : ℕ) → l < 32 → (masks : ℕ × ℕ) (t : ℕ) → (Holds (of_masks (with_letter v l masks)) t → Holds (of_masks masks) t × (bit t l ≡ v)) × (Holds (of_masks masks) t → bit t l ≡ v → Holds (of_masks (with_letter v l masks)) t)
+with_decides : (v : Bool) (l : ℕ) → l < 32 → (masks : Condition) (t : ℕ) → (Holds (with_letter v l masks) t → Holds masks t × (bit t l ≡ v)) × (Holds masks t → bit t l ≡ v → Holds (with_letter v l masks) t)
 with_decides true l lt masks t = (
   λ h. (
     record {
-      on = λ i has. h.on i (bit_of_or masks.0 (letter_mask l) i ∙ or_left _ _ has);
+      on = λ i has. h.on i (bit_of_or masks.ones (letter_mask l) i ∙ or_left _ _ has);
       off = h.off;
     },
-    h.on l (bit_of_or masks.0 (letter_mask l) l ∙ or_right (bit masks.0 l) _ (bit_letter l l lt ∙ eq-eqb l l refl)),
+    h.on l (bit_of_or masks.ones (letter_mask l) l ∙ or_right (bit masks.ones l) _ (bit_letter l l lt ∙ eq-eqb l l refl)),
   ),
   λ h v. record {
     on = λ i has.
         ⊎_elim (λ old. h.on i old) (λ new. subst (λ k. bit t k ≡ true) (sym (eqb-true i l (sym (bit_letter l i lt) ∙ new))) v)
-        (or_cases (bit masks.0 i) (bit (letter_mask l) i) (sym (bit_of_or masks.0 (letter_mask l) i) ∙ has));
+        (or_cases (bit masks.ones i) (bit (letter_mask l) i) (sym (bit_of_or masks.ones (letter_mask l) i) ∙ has));
     off = h.off;
   },
 )
@@ -92,15 +69,15 @@ with_decides false l lt masks t = (
   λ h. (
     record {
       on = h.on;
-      off = λ i has. h.off i (bit_of_or masks.1 (letter_mask l) i ∙ or_left _ _ has);
+      off = λ i has. h.off i (bit_of_or masks.zeros (letter_mask l) i ∙ or_left _ _ has);
     },
-    h.off l (bit_of_or masks.1 (letter_mask l) l ∙ or_right (bit masks.1 l) _ (bit_letter l l lt ∙ eq-eqb l l refl)),
+    h.off l (bit_of_or masks.zeros (letter_mask l) l ∙ or_right (bit masks.zeros l) _ (bit_letter l l lt ∙ eq-eqb l l refl)),
   ),
   λ h v. record {
     on = h.on;
     off = λ i has.
         ⊎_elim (λ old. h.off i old) (λ new. subst (λ k. bit t k ≡ false) (sym (eqb-true i l (sym (bit_letter l i lt) ∙ new))) v)
-        (or_cases (bit masks.1 i) (bit (letter_mask l) i) (sym (bit_of_or masks.1 (letter_mask l) i) ∙ has));
+        (or_cases (bit masks.zeros i) (bit (letter_mask l) i) (sym (bit_of_or masks.zeros (letter_mask l) i) ∙ has));
   },
 )
 
@@ -118,44 +95,52 @@ agrees_cons w t c cs first rest d here =
     (λ later. rest d later)
     (Memᴰ.cases_cons here)
 
--- what the masks force against, clause by clause
-forced_decides : (w t : ℕ) (cs : List Clause) → SmallLetters cs → (masks : ℕ × ℕ) → (Holds (of_masks (forced w cs masks)) t → Holds (of_masks masks) t × Agrees w t cs) × (Holds (of_masks masks) t → Agrees w t cs → Holds (of_masks (forced w cs masks)) t)
+-- what a first clause forces, and then the others
+forced_more : (w : ℕ) (c : Clause) (cs : List Clause) (masks : Condition) → forced w (c ∷ cs) masks ≡ forced w cs (cond (holds c.condition w) (with_letter c.value c.letter masks) masks)
+forced_more w c cs masks = by (filter (λ (d : Clause). holds d.condition w) cs) (holds c.condition w)
+  where
+    by : (ds : List Clause) (b : Bool) → fold (λ e d. with_letter d.value d.letter e) masks (cond b (c ∷ ds) ds) ≡ fold (λ e d. with_letter d.value d.letter e) (cond b (with_letter c.value c.letter masks) masks) ds
+    by ds true = refl
+    by ds false = refl
+
+-- what the clauses force against, one by one
+forced_decides : (w t : ℕ) (cs : List Clause) → SmallLetters cs → (masks : Condition) → (Holds (forced w cs masks) t → Holds masks t × Agrees w t cs) × (Holds masks t → Agrees w t cs → Holds (forced w cs masks) t)
 forced_decides w t [] small masks = (λ h. (h, λ c here. absurd (Memᴰ.not-nil here)), λ h _. h)
 forced_decides w t (c ∷ cs) small masks = by (holds c.condition w) refl (forced_decides w t cs (λ d here. small d (Memᴰ.tail here)))
   where
     lt : c.letter < 32
     lt = small c (Memᴰ.head refl)
 
-    by : (b : Bool) → holds c.condition w ≡ b → ((ms : ℕ × ℕ) → (Holds (of_masks (forced w cs ms)) t → Holds (of_masks ms) t × Agrees w t cs) × (Holds (of_masks ms) t → Agrees w t cs → Holds (of_masks (forced w cs ms)) t)) → (Holds (of_masks (forced w (c ∷ cs) masks)) t → Holds (of_masks masks) t × Agrees w t (c ∷ cs)) × (Holds (of_masks masks) t → Agrees w t (c ∷ cs) → Holds (of_masks (forced w (c ∷ cs) masks)) t)
+    by : (b : Bool) → holds c.condition w ≡ b → ((ms : Condition) → (Holds (forced w cs ms) t → Holds ms t × Agrees w t cs) × (Holds ms t → Agrees w t cs → Holds (forced w cs ms) t)) → (Holds (forced w (c ∷ cs) masks) t → Holds masks t × Agrees w t (c ∷ cs)) × (Holds masks t → Agrees w t (c ∷ cs) → Holds (forced w (c ∷ cs) masks) t)
     by true is rest =
-        let next : ℕ × ℕ = with_letter c.value c.letter masks in
-        let step : forced w (c ∷ cs) masks ≡ forced w cs next = ap (λ b. forced w cs (cond b next masks)) is in
+        let next : Condition = with_letter c.value c.letter masks in
+        let step : forced w (c ∷ cs) masks ≡ forced w cs next = forced_more w c cs masks ∙ ap (λ b. forced w cs (cond b next masks)) is in
         let letter = with_decides c.value c.letter lt masks t in (
           λ h.
-              let r = (rest next).0 (subst (λ ms. Holds (of_masks ms) t) step h) in
+              let r = (rest next).0 (subst (λ ms. Holds ms t) step h) in
               let l = letter.0 r.0 in
               (l.0, agrees_cons w t c cs (λ _. l.1) r.1),
           λ h all.
-              subst (λ ms. Holds (of_masks ms) t) (sym step)
+              subst (λ ms. Holds ms t) (sym step)
               ((rest next).1 (letter.1 h (all c (Memᴰ.head refl) ((holds_decides c.condition w).0 is))) (λ d here. all d (Memᴰ.tail here))),
         )
     by false is rest =
-        let step : forced w (c ∷ cs) masks ≡ forced w cs masks = ap (λ b. forced w cs (cond b (with_letter c.value c.letter masks) masks)) is in (
+        let step : forced w (c ∷ cs) masks ≡ forced w cs masks = forced_more w c cs masks ∙ ap (λ b. forced w cs (cond b (with_letter c.value c.letter masks) masks)) is in (
           λ h.
-              let r = (rest masks).0 (subst (λ ms. Holds (of_masks ms) t) step h) in
+              let r = (rest masks).0 (subst (λ ms. Holds ms t) step h) in
               (r.0, agrees_cons w t c cs (λ yes_holds. absurd (both_ways _ is ((holds_decides c.condition w).1 yes_holds))) r.1),
-          λ h all. subst (λ ms. Holds (of_masks ms) t) (sym step) ((rest masks).1 h (λ d here. all d (Memᴰ.tail here))),
+          λ h all. subst (λ ms. Holds ms t) (sym step) ((rest masks).1 h (λ d here. all d (Memᴰ.tail here))),
         )
 
-nothing_forced : (t : ℕ) → Holds (of_masks (0, 0)) t
+nothing_forced : (t : ℕ) → Holds always t
 nothing_forced t = record { on = λ i has. absurd (both_ways _ (no_bits i) has); off = λ i has. absurd (both_ways _ (no_bits i) has) }
 
 module _ (p : Parts) (small : SmallLetters p.nexts) where
   allows_decides : (t w : ℕ) → Decides (allows p t w) (Fits p w × Agrees w t p.nexts)
   allows_decides t w =
       let f = fits_decides p w in
-      let h = holds_decides (of_masks (forced w p.nexts (0, 0))) t in
-      let b = forced_decides w t p.nexts small (0, 0) in (
+      let h = holds_decides (forced w p.nexts always) t in
+      let b = forced_decides w t p.nexts small always in (
         λ e. let parts = and_parts (fits_word p w) _ e in (f.0 parts.0, (b.0 (h.0 parts.1)).1),
         λ x. and_from (fits_word p w) _ (f.1 x.0) (h.1 (b.1 (nothing_forced t) x.1)),
       )

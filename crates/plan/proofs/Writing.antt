@@ -3,7 +3,7 @@ use Rattle.std.proofs.Common.{◌≡◌, ℕ, zero, suc, ◌+◌, ◌*◌, ◌/�
 use Rattle.std.proofs.lemmas.List.{drop_more, drop-drop, get_or-drop}
 use Rattle.std.proofs.lemmas.Bool.{cases_eq, and_parts, and_from, leb-true, ltb-true, le-leb, lt-ltb}
 use Rattle.records.specs.Reading.{body_length}
-use Rattle.plan.specs.declared.clause.Condition.{Condition}
+use Rattle.plant.specs.declared.condition.Condition.{Condition}
 use Rattle.plan.specs.Judging.{plan_kinds}
 use Rattle.plan.specs.Refused.{ClauseKind, Whole}
 use Rattle.plan.specs.Items.{always, byte, mask_at, condition_at, clause_at, item_fits}

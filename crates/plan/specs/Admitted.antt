@@ -1,7 +1,7 @@
 -- What holds of every admitted plan. Assumes nothing.
 use Rattle.std.specs.Prelude.{◌≡◌, ℕ, ◌^◌, ◌<◌, List}
 use mathlib.Core.List.{Memᴰ}
-use Rattle.plan.specs.Clauses.{Holds}
+use Rattle.plant.specs.Conditions.{Holds}
 use Rattle.plan.specs.Depends.{LoopFree}
 use Rattle.plan.specs.Formed.{WellFormed}
 use Rattle.plan.specs.Machine.{Parts, Fits, Follows, PlanWords, extension, plan_meaning}

@@ -1,6 +1,8 @@
 -- Extensions of a pair, and what the next clauses force in one. Assumes nothing.
-use Rattle.std.specs.Prelude.{ℕ, ◌+◌, ◌*◌, ◌^◌, Bool, cond, List, [], ◌∷◌, bit_or, nat_lt}
-use Rattle.plan.specs.Clauses.{holds}
+use Rattle.std.specs.Prelude.{ℕ, ◌+◌, ◌*◌, ◌^◌, Bool, cond, List, bit_or, nat_lt}
+use Rattle.plant.specs.Conditions.{holds}
+use Rattle.plant.specs.declared.condition.Condition.{Condition}
+use Rattle.std.specs.List.{filter, fold}
 use Rattle.plan.specs.declared.clause.Clause.{Clause}
 
 -- the word of a state, a setting and an assignment of the auxiliaries: state bits lowest, then lines, then auxiliaries
@@ -11,11 +13,10 @@ word_of b n s a x = x * 2 ^ (b + n) + (a * 2 ^ b + s)
 abbrev pub letter_mask : ℕ → ℕ
 letter_mask l = cond (nat_lt l 32) (2 ^ l) 0
 
--- the masks with one letter more: among the bits forced to one, or among those forced to zero
-abbrev pub with_letter : Bool → ℕ → ℕ × ℕ → ℕ × ℕ
-with_letter v l masks = cond v (bit_or masks.0 (letter_mask l), masks.1) (masks.0, bit_or masks.1 (letter_mask l))
+-- the condition with one letter more: among its ones, or among its zeros
+abbrev pub with_letter : Bool → ℕ → Condition → Condition
+with_letter v l d = cond v (record { ones = bit_or d.ones (letter_mask l); zeros = d.zeros }) (record { ones = d.ones; zeros = bit_or d.zeros (letter_mask l) })
 
--- the bits forced to one and to zero by the clauses whose condition holds in the word, beside those of the masks
-abbrev pub forced : ℕ → List Clause → ℕ × ℕ → ℕ × ℕ
-forced w [] masks = masks
-forced w (c ∷ cs) masks = forced w cs (cond (holds c.condition w) (with_letter c.value c.letter masks) masks)
+-- the bits forced to one and to zero by the clauses whose condition holds in the word, beside those of the condition
+abbrev pub forced : ℕ → List Clause → Condition → Condition
+forced w cs d = fold (λ e c. with_letter c.value c.letter e) d (filter (λ (c : Clause). holds c.condition w) cs)

@@ -5,7 +5,7 @@ use Rattle.plan.specs.Items.{always}
 use Rattle.plan.specs.Machine.{Parts}
 use Rattle.plan.specs.Sizes.{sizes_fit}
 use Rattle.plan.specs.declared.clause.Clause.{Clause}
-use Rattle.plan.specs.declared.clause.Condition.{Condition}
+use Rattle.plant.specs.declared.condition.Condition.{Condition}
 
 -- how many letters there are
 abbrev pub letters : Parts → ℕ

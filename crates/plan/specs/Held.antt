@@ -5,9 +5,9 @@ use Rattle.plan.specs.declared.plan.Plan.{Plan}
 
 abbrev pub parts_of : Plan → Parts
 parts_of x = record {
-  bits = x.state_bits;
-  lines = x.lines;
-  auxiliaries = x.auxiliaries;
+  bits = x.sizes.pair.state_bits;
+  lines = x.sizes.pair.lines;
+  auxiliaries = x.sizes.auxiliaries;
   starts = vec_items x.starts;
   nexts = vec_items x.nexts;
   auxes = vec_items x.auxes;

@@ -2,7 +2,7 @@
 use Rattle.std.specs.Prelude.{ℕ, ◌+◌, ◌*◌, ◌^◌, Bool, false, cond, not, ◌&&◌, ◌||◌, List, ◌==◌, bit_and, bit_or, nat_le, nat_lt, slice_index}
 use Rattle.plant.specs.Tests.{same}
 use Rattle.plan.specs.declared.clause.Clause.{Clause}
-use Rattle.plan.specs.declared.clause.Condition.{Condition}
+use Rattle.plant.specs.declared.condition.Condition.{Condition}
 
 -- the byte at an index, 0 past the end
 abbrev pub byte : List ℕ → ℕ → ℕ
@@ -30,11 +30,15 @@ clause_at bs o code =
 abbrev pub letter_fits : ℕ → ℕ → ℕ → ℕ → ℕ → Bool
 letter_fits b n m code l = cond (code == 4) (nat_le (b + n) l && nat_lt l (b + n + m)) (nat_lt l b)
 
+-- no mask of the condition has a letter beyond the k there are
+abbrev pub masks_below : ℕ → Condition → Bool
+masks_below k c = nat_lt c.ones (2 ^ k) && nat_lt c.zeros (2 ^ k)
+
 -- letter, value and masks are in order
 abbrev pub item_fits : ℕ → ℕ → ℕ → List ℕ → ℕ → ℕ → Bool
 item_fits b n m bs o code =
     (code == 5 || (letter_fits b n m code (byte bs (o + 1)) && nat_le (byte bs (o + 2)) 1))
-    && (nat_lt (clause_at bs o code).condition.ones (2 ^ (b + n + m)) && nat_lt (clause_at bs o code).condition.zeros (2 ^ (b + n + m)))
+    && masks_below (b + n + m) (clause_at bs o code).condition
 
 -- two clauses for one letter with opposite values, whose conditions can be true together
 abbrev pub clash : Clause → Clause → Bool

@@ -1,11 +1,9 @@
 -- What reading a plan comes to, as a function of its bytes. Assumes nothing.
 use Rattle.std.specs.Prelude.{ℕ, zero, suc, ◌+◌, ◌^◌, Bool, cond, ◌&&◌, List, [], ◌∷◌, ◌++◌, length, Some, None, Ok, Err, Option, Result, ◌==◌, nat_le, nat_lt}
-use Rattle.plant.specs.Tests.{some_of}
-use Rattle.records.specs.Reading.{record_at}
+use Rattle.std.specs.List.{list_any}
+use Rattle.records.specs.Reading.{Kind, Record, record_at}
 use Rattle.records.specs.declared.BytesFault.{BytesFault}
 use Rattle.records.specs.declared.BytesFault.TheVariants.{Unfinished, AfterEnd}
-use Rattle.records.specs.declared.Kind.{Kind}
-use Rattle.records.specs.declared.Record.{Record}
 use Rattle.plan.specs.Items.{byte, clause_at, item_fits, clash}
 use Rattle.plan.specs.Loops.{first_loop}
 use Rattle.plan.specs.Machine.{Parts}
@@ -35,9 +33,9 @@ pub record Seen : Type 0 where
 -- whether the clause clashes with one of its kind that was read before
 abbrev pub clashes_with : Parts → ℕ → Clause → Bool
 clashes_with p code c =
-    cond (code == 2) (some_of (clash c) p.starts)
-    (cond (code == 3) (some_of (clash c) p.nexts)
-    (code == 4 && some_of (clash c) p.auxes))
+    cond (code == 2) (list_any (clash c) p.starts)
+    (cond (code == 3) (list_any (clash c) p.nexts)
+    (code == 4 && list_any (clash c) p.auxes))
 
 -- the lists with one clause or ban more
 abbrev pub with_clause : Parts → ℕ → Clause → Parts

@@ -1,7 +1,6 @@
 -- What the steps of reading do, beside want of memory. Assumes nothing.
 use Rattle.std.specs.Prelude.{◌≡◌, ℕ, ◌≤◌, true, List, Ok, Err, Result}
-use Rattle.records.specs.Reading.{record_at}
-use Rattle.records.specs.declared.Record.{Record}
+use Rattle.records.specs.Reading.{Record, record_at}
 use Rattle.plan.specs.Held.{parts_of}
 use Rattle.plan.specs.Items.{byte, item_fits}
 use Rattle.plan.specs.Judging.{Seen, none_yet, plan_kinds}
@@ -9,7 +8,7 @@ use Rattle.plan.specs.Machine.{Parts}
 use Rattle.plan.specs.Sizes.{sizes_fit}
 use Rattle.plan.specs.declared.fault.PlanFault.{PlanFault}
 use Rattle.plan.specs.declared.fault.PlanFault.TheVariants.{Bytes, HeadMisplaced, SizeLimits, TooManyClauses, Malformed, Loop, Clash, Memory}
-use Rattle.plan.specs.declared.reading.Reading.{Reading}
+use Rattle.plan.specs.declared.partial.Reading.{Reading}
 
 -- what a reading has seen
 abbrev pub seen_of : Reading → Seen

@@ -9,6 +9,7 @@ pub mod Held
 pub mod Items
 pub mod Judging
 pub mod Kept
+pub mod Kinds
 pub mod Loops
 pub mod Machine
 pub mod Refused

@@ -4,11 +4,13 @@ use mathlib.Core.List.{Memᴰ}
 use Rattle.plant.specs.Bits.{bit}
 use Rattle.plant.specs.Bounded.{all_below, any_below}
 use Rattle.plant.specs.Meaning.{Meaning}
-use Rattle.plant.specs.Tests.{all_of, some_of}
-use Rattle.plan.specs.Clauses.{holds, Holds, clause_true, ClauseTrue}
+use Rattle.std.specs.List.{list_all, list_any}
+use Rattle.plant.specs.Conditions.{holds, Holds}
+use Rattle.plan.specs.Clauses.{clause_true, ClauseTrue}
 use Rattle.plan.specs.Extension.{word_of, forced}
+use Rattle.plan.specs.Items.{always}
 use Rattle.plan.specs.declared.clause.Clause.{Clause}
-use Rattle.plan.specs.declared.clause.Condition.{Condition}
+use Rattle.plant.specs.declared.condition.Condition.{Condition}
 
 -- the sizes of a plan and its clauses, each kind in file order
 pub record Parts : Type 0 where
@@ -26,15 +28,15 @@ extension p s a x = word_of p.bits p.lines s a x
 
 -- whether a word fits the auxiliary clauses
 abbrev pub fits_word : Parts → ℕ → Bool
-fits_word p w = all_of (clause_true w) p.auxes
+fits_word p w = list_all (clause_true w) p.auxes
 
 -- whether a word fits and some ban holds in it
 abbrev pub banned : Parts → ℕ → Bool
-banned p w = fits_word p w && some_of (λ ban. holds ban w) p.bans
+banned p w = fits_word p w && list_any (λ ban. holds ban w) p.bans
 
 -- whether a word fits and forces no bit against t
 abbrev pub allows : Parts → ℕ → ℕ → Bool
-allows p t w = fits_word p w && holds (record { ones = (forced w p.nexts (0, 0)).0; zeros = (forced w p.nexts (0, 0)).1 }) t
+allows p t w = fits_word p w && holds (forced w p.nexts always) t
 
 -- whether s is a state and a a setting
 abbrev pub is_pair : Parts → ℕ → ℕ → Bool
@@ -45,7 +47,7 @@ abbrev pub plan_meaning : Parts → Meaning
 plan_meaning p = record {
   bits = p.bits;
   lines = p.lines;
-  start = λ t. nat_lt t (2 ^ p.bits) && all_of (clause_true t) p.starts;
+  start = λ t. nat_lt t (2 ^ p.bits) && list_all (clause_true t) p.starts;
   safe = λ s a. is_pair p s a && all_below (λ x. not (banned p (extension p s a x))) (2 ^ p.auxiliaries);
   follows = λ s a t. (is_pair p s a && nat_lt t (2 ^ p.bits)) && any_below (λ x. allows p t (extension p s a x)) (2 ^ p.auxiliaries);
 }

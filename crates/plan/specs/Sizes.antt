@@ -1,6 +1,6 @@
 -- The sizes of a plan. Assumes nothing.
 use Rattle.std.specs.Prelude.{ℕ, Bool, ◌&&◌, nat_le}
-use Rattle.plant.specs.Meaning.{most_bits, most_lines}
+use Rattle.plant.specs.Sizes.{sizes_fit as pair_fits}
 
 -- the most auxiliaries
 abbrev pub most_auxiliaries : ℕ
@@ -8,4 +8,4 @@ most_auxiliaries = 8
 
 -- the sizes are within their limits
 abbrev pub sizes_fit : ℕ → ℕ → ℕ → Bool
-sizes_fit b n m = (nat_le 1 b && nat_le b most_bits) && ((nat_le 1 n && nat_le n most_lines) && nat_le m most_auxiliaries)
+sizes_fit b n m = pair_fits b n && nat_le m most_auxiliaries

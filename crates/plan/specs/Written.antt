@@ -3,7 +3,7 @@ use Rattle.std.specs.Prelude.{ℕ, ◌+◌, ◌/◌, ◌%◌, ◌^◌, ◌<◌, 
 use mathlib.Core.List.{Memᴰ}
 use Rattle.std.specs.List.{flat_map}
 use Rattle.plant.specs.Sizes.{Limits as PlantLimits}
-use Rattle.plan.specs.declared.clause.Condition.{Condition}
+use Rattle.plant.specs.declared.condition.Condition.{Condition}
 use Rattle.plan.specs.Admitted.{ClashFree}
 use Rattle.plan.specs.Depends.{LoopFree}
 use Rattle.plan.specs.Items.{always}

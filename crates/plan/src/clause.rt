@@ -1,15 +1,20 @@
-// Conditions over letters, and clauses.
-ghost use Rattle.std.specs.Prelude.{◌≡◌};
-ghost use Rattle.plan.specs.Clauses.{holds, clause_true};
-ghost use Rattle.plan.specs.Items.{clash};
+// Clauses, and lists of them.
+ghost use Rattle.std.specs.Prelude.{◌≡◌, bit_or};
+ghost use Rattle.std.specs.List.{list_all, list_any};
+ghost use Rattle.plan.specs.Clauses.{clause_true};
+ghost use Rattle.plan.specs.Extension.{forced, letter_mask, with_letter};
+ghost use Rattle.plan.specs.Items.{always, clash};
 
-use plant::has_bit;
+use plant::{Condition, has_bit};
 
-// A condition is true in a word where each letter of `ones` is 1 and each letter of `zeros` is 0.
-#[derive(Clone, Copy, PartialEq, Eq, Debug)]
-pub struct Condition {
-    pub ones: u32,
-    pub zeros: u32,
+// The condition that is always true.
+pub(crate) const ALWAYS: Condition = Condition { ones: 0, zeros: 0 };
+
+// The mask of one letter.
+pub(crate) fn letter_mask(letter: u32) -> u32
+    ensures { result ≡ letter_mask letter }
+{
+    if letter < 32 { 1 << letter } else { 0 }
 }
 
 // Where the condition is true, the letter has the value.
@@ -20,21 +25,37 @@ pub struct Clause {
     pub condition: Condition,
 }
 
-impl Condition {
-    // Whether the condition is true in the word.
-    pub(crate) fn holds(&self, word: u32) -> bool
-        ensures { result ≡ holds self.now word }
-    {
-        word & self.ones == self.ones && word & self.zeros == 0
-    }
-}
-
 impl Clause {
+    // The letters in its condition.
+    pub(crate) fn named(&self) -> u32
+        ensures { result ≡ bit_or self.now.condition.ones self.now.condition.zeros }
+    {
+        self.condition.ones | self.condition.zeros
+    }
+
     // Whether the clause is true in the word: its condition is not, or its letter has its value.
     pub(crate) fn is_true(&self, word: u32) -> bool
         ensures { result ≡ clause_true word self.now }
     {
         !self.condition.holds(word) || has_bit(word, self.letter) == self.value
+    }
+
+    // The condition with the clause's letter more, at its value.
+    pub(crate) fn forces(&self, forced: Condition) -> Condition
+        ensures { result ≡ with_letter self.now.value self.now.letter forced }
+    {
+        let mask = letter_mask(self.letter);
+        if self.value {
+            Condition {
+                ones: forced.ones | mask,
+                ..forced
+            }
+        } else {
+            Condition {
+                zeros: forced.zeros | mask,
+                ..forced
+            }
+        }
     }
 
     // Whether the two clauses are for one letter, have opposite values, and conditions that can be true together.
@@ -45,4 +66,42 @@ impl Clause {
         let zeros = self.condition.zeros | other.condition.zeros;
         self.letter == other.letter && self.value != other.value && ones & zeros == 0
     }
+}
+
+// Whether each clause, taken in file order, is true in the word.
+pub(crate) fn all_true(clauses: &[Clause], word: u32) -> bool
+    ensures { result ≡ list_all (clause_true word) clauses.now }
+{
+    // A `for` and no `all`: that clauses are gone through in file order, one test each, stands here in so many words by a rule of the project.
+    for clause in clauses {
+        if !clause.is_true(word) {
+            return false;
+        }
+    }
+    true
+}
+
+// Whether the clause clashes with one of the list.
+pub(crate) fn some_clash(clauses: &[Clause], clause: &Clause) -> bool
+    ensures { result ≡ list_any (clash clause.now) clauses.now }
+{
+    clauses.iter().any(|other| clause.clashes(other))
+}
+
+// What the next clauses force in the word: the condition that a state has to meet to follow.
+fn forced_condition(nexts: &[Clause], word: u32) -> Condition
+    ensures { result ≡ forced word nexts.now always }
+{
+    nexts
+        .iter()
+        .filter(|clause| clause.condition.holds(word))
+        .fold(ALWAYS, |forced, clause| clause.forces(forced))
+}
+
+// The bits that the next clauses force in the word, to one and to zero: a pair, by a rule of the project.
+pub(crate) fn forced_bits(nexts: &[Clause], word: u32) -> (u32, u32)
+    ensures { result ≡ ((forced word nexts.now always).ones, (forced word nexts.now always).zeros) }
+{
+    let forced = forced_condition(nexts, word);
+    (forced.ones, forced.zeros)
 }

@@ -29,6 +29,7 @@ pub enum PlanFault {
 
 impl PlanFault {
     // The fault's number, place and layer; want of memory has none.
+    // A method and no `From`: of some faults there is no refusal, and one name asks all of them.
     pub fn refusal(&self) -> Option<Refusal>
         ensures { result ≡ plan_refusal self.now }
     {
@@ -38,6 +39,7 @@ impl PlanFault {
             PlanFault::SizeLimits => (4, 0),
             PlanFault::TooManyClauses { offset } => (5, *offset),
             PlanFault::Malformed { offset } => (6, *offset),
+            // No `From` goes from u32 to usize.
             PlanFault::Loop { letter } => (8, *letter as usize),
             PlanFault::Clash { offset } => (9, *offset),
             PlanFault::Memory => return None,
@@ -51,6 +53,7 @@ impl PlanFault {
     }
 }
 
+// Written by hand, as the one after it: a clause names the error that a `?` makes, and a derive gives no such fact.
 impl From<BytesFault> for PlanFault {
     ghost from_gives = { λ f r. r ≡ Bytes f };
 

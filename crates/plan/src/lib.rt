@@ -3,12 +3,14 @@
 
 mod answers;
 mod clause;
-mod extension;
 mod fault;
-mod fields;
+mod item;
+mod kind;
 mod loops;
+mod partial;
 mod plan;
 mod reading;
+mod sizes;
 
 pub use fault::PlanFault;
 pub use plan::{Counts, Plan};

@@ -1,22 +1,10 @@
 // A clause plan.
-ghost use Rattle.std.specs.Prelude.{◌≡◌, true};
-ghost use Rattle.plan.specs.Sizes.{sizes_fit};
-
-use crate::clause::{Clause, Condition};
-
-// The most auxiliaries that a plan may have.
-pub(crate) const MAX_AUXILIARIES: u32 = 8;
+use crate::clause::Clause;
+use crate::sizes::PlanSizes;
+use plant::Condition;
 
 // The most clauses and bans that a plan may have.
 pub(crate) const MAX_CLAUSES: usize = 96;
-
-// How many state bits, drive lines and auxiliaries there are.
-#[derive(Clone, Copy)]
-pub(crate) struct Sizes {
-    pub(crate) bits: u32,
-    pub(crate) lines: u32,
-    pub(crate) auxiliaries: u32,
-}
 
 // How many auxiliaries a plan has, and how many clauses of each kind.
 #[derive(Clone, Copy, PartialEq, Eq, Debug)]
@@ -30,9 +18,7 @@ pub struct Counts {
 
 #[derive(Drop)]
 pub struct Plan {
-    pub(crate) state_bits: u32,
-    pub(crate) lines: u32,
-    pub(crate) auxiliaries: u32,
+    pub(crate) sizes: PlanSizes,
     // The values of state bits at the start, as clauses whose condition is always true.
     pub(crate) starts: Vec<Clause>,
     // The values of state bits at the next tick.
@@ -41,6 +27,4 @@ pub struct Plan {
     pub(crate) auxes: Vec<Clause>,
     // What must never be true.
     pub(crate) bans: Vec<Condition>,
-    // The sizes are within their limits.
-    ghost fits: { sizes_fit state_bits lines auxiliaries ≡ true },
 }

@@ -6,247 +6,163 @@ mod tests {
     use plan::{Plan, PlanFault};
     use plant::Plant;
     use records::BytesFault;
-    use std::alloc::Global;
     use std::process::Abort;
     use std::test::Fail;
+    use worked::brake_plan;
 
-    // Two state bits and a line; bit 1 is 0 at the start and follows the line; where the line is on, bit 0 is 0 next.
-    // Never bit 1 with the line on, and never bit 0 with the line off.
-    fn brake(heap: Global) -> Result<Vec<u8>, Fail> {
-        let mut bytes = Vec::from_slice(heap, &[1, 2, 1, 0])?;
-        bytes.extend_from_slice(&[2, 1, 0])?;
-        bytes.extend_from_slice(&[3, 1, 1, 0, 0, 0, 4, 0, 0, 0, 0])?;
-        bytes.extend_from_slice(&[3, 1, 0, 0, 0, 0, 0, 0, 0, 0, 4])?;
-        bytes.extend_from_slice(&[3, 0, 0, 0, 0, 0, 4, 0, 0, 0, 0])?;
-        bytes.extend_from_slice(&[5, 0, 0, 0, 6, 0, 0, 0, 0])?;
-        bytes.extend_from_slice(&[5, 0, 0, 0, 1, 0, 0, 0, 4])?;
-        bytes.extend_from_slice(&[15])?;
-        Ok(bytes)
+    // What reading a plan comes to: it is admitted, or turned away with the fault.
+    type Read = Result<(), PlanFault>;
+
+    fn expect<R: Abort + AllocGlobal>(rt: &R, bytes: &[u8], want: Read) {
+        assert_eq!(rt; Plan::read(rt.alloc(), bytes).map(|_| ()), want);
     }
 
-    fn expect(rt: &impl Abort, heap: Global, bytes: &[u8], want: Result<(), PlanFault>) {
-        let found = match Plan::read(heap, bytes) {
-            Ok(_) => Ok(()),
-            Err(fault) => Err(fault),
-        };
-        assert_eq!(rt; found, want);
+    // The same of a plan of these records, one after another, and the end.
+    fn expect_records<R: Abort + AllocGlobal>(
+        rt: &R,
+        records: &[&[u8]],
+        want: Read,
+    ) -> Result<(), Fail> {
+        let mut bytes = Vec::new(rt.alloc());
+        for record in records {
+            bytes.extend_from_slice(record)?;
+        }
+        bytes.push(15)?;
+        expect(rt, bytes.as_slice(), want);
+        Ok(())
     }
 
-    fn cut(offset: usize) -> Result<(), PlanFault> {
+    fn cut(offset: usize) -> Read {
         Err(PlanFault::Bytes(BytesFault::Unfinished { offset }))
     }
 
     // The offset of the record that byte `at` of the brake plan belongs to, or of the next where one ends there.
     fn record_of(at: usize) -> usize {
-        let mut last = 0;
-        for start in [0, 4, 7, 18, 29, 40, 49, 58] {
-            if start <= at {
-                last = start;
-            }
-        }
-        last
+        let starts = [0, 4, 7, 18, 29, 40, 49, 58];
+        starts
+            .into_iter()
+            .filter(|start| *start <= at)
+            .last()
+            .unwrap_or(0)
     }
 
     #[test]
-    fn cut_at_every_offset(rt: HostRuntime) -> Result<(), Fail> {
-        let heap = rt.alloc();
-        let whole = brake(heap)?;
-        let mut bytes = Vec::new(heap);
-        for byte in whole.as_slice() {
-            expect(&rt, heap, bytes.as_slice(), cut(record_of(bytes.len())));
-            bytes.push(*byte)?;
+    fn cut_at_every_offset(rt: HostRuntime) {
+        let whole = brake_plan();
+        assert_eq!(rt; whole.len(), 59);
+        for at in 0..59 {
+            expect(&rt, &whole[..at], cut(record_of(at)));
         }
-        assert_eq!(rt; bytes.len(), 59);
-        expect(&rt, heap, bytes.as_slice(), Ok(()));
-        Ok(())
+        expect(&rt, &whole, Ok(()));
     }
 
     #[test]
     fn heads(rt: HostRuntime) {
-        let heap = rt.alloc();
-        expect(
-            &rt,
-            heap,
-            &[15],
-            Err(PlanFault::HeadMisplaced { offset: 0 }),
-        );
-        expect(
-            &rt,
-            heap,
-            &[1, 1, 1, 0, 1, 1, 1, 0, 15],
-            Err(PlanFault::HeadMisplaced { offset: 4 }),
-        );
-        for (b, n, m) in [(0, 1, 0), (9, 1, 0), (1, 0, 0), (1, 5, 0), (1, 1, 9)] {
-            expect(&rt, heap, &[1, b, n, m, 15], Err(PlanFault::SizeLimits));
+        let cases: [(&[u8], Read); 5] = [
+            (&[15], Err(PlanFault::HeadMisplaced { offset: 0 })),
+            (
+                &[1, 1, 1, 0, 1, 1, 1, 0, 15],
+                Err(PlanFault::HeadMisplaced { offset: 4 }),
+            ),
+            (&[1, 8, 4, 8, 15], Ok(())),
+            (
+                &[1, 1, 1, 0, 9],
+                Err(PlanFault::Bytes(BytesFault::UnknownKind { offset: 4 })),
+            ),
+            (
+                &[1, 1, 1, 0, 15, 0],
+                Err(PlanFault::Bytes(BytesFault::AfterEnd { offset: 5 })),
+            ),
+        ];
+        for (bytes, want) in cases {
+            expect(&rt, bytes, want);
         }
-        expect(&rt, heap, &[1, 8, 4, 8, 15], Ok(()));
-        expect(
-            &rt,
-            heap,
-            &[1, 1, 1, 0, 9],
-            Err(PlanFault::Bytes(BytesFault::UnknownKind { offset: 4 })),
-        );
-        expect(
-            &rt,
-            heap,
-            &[1, 1, 1, 0, 15, 0],
-            Err(PlanFault::Bytes(BytesFault::AfterEnd { offset: 5 })),
-        );
+        for (b, n, m) in [(0, 1, 0), (9, 1, 0), (1, 0, 0), (1, 5, 0), (1, 1, 9)] {
+            expect(&rt, &[1, b, n, m, 15], Err(PlanFault::SizeLimits));
+        }
     }
 
     #[test]
     fn letters_values_and_masks(rt: HostRuntime) {
         // One bit, one line, one auxiliary: letters 0, 1 and 2.
-        let heap = rt.alloc();
         let bad = Err(PlanFault::Malformed { offset: 4 });
-        expect(&rt, heap, &[1, 1, 1, 1, 2, 1, 0, 15], bad);
-        expect(&rt, heap, &[1, 1, 1, 1, 2, 0, 2, 15], bad);
-        expect(
-            &rt,
-            heap,
-            &[1, 1, 1, 1, 3, 1, 0, 0, 0, 0, 0, 0, 0, 0, 0, 15],
-            bad,
-        );
-        expect(
-            &rt,
-            heap,
-            &[1, 1, 1, 1, 4, 1, 0, 0, 0, 0, 0, 0, 0, 0, 0, 15],
-            bad,
-        );
-        expect(
-            &rt,
-            heap,
-            &[1, 1, 1, 1, 4, 3, 0, 0, 0, 0, 0, 0, 0, 0, 0, 15],
-            bad,
-        );
-        expect(
-            &rt,
-            heap,
-            &[1, 1, 1, 1, 4, 2, 0, 0, 0, 0, 0, 0, 0, 0, 0, 15],
-            Ok(()),
-        );
-        expect(&rt, heap, &[1, 1, 1, 1, 5, 0, 0, 0, 8, 0, 0, 0, 0, 15], bad);
-        expect(
-            &rt,
-            heap,
-            &[1, 1, 1, 1, 5, 0, 0, 0, 7, 0, 0, 0, 7, 15],
-            Ok(()),
-        );
-        expect(&rt, heap, &[1, 1, 1, 1, 5, 0, 0, 0, 0, 0, 0, 0, 8, 15], bad);
+        let cases: [(&[u8], Read); 9] = [
+            (&[1, 1, 1, 1, 2, 1, 0, 15], bad),
+            (&[1, 1, 1, 1, 2, 0, 2, 15], bad),
+            (&[1, 1, 1, 1, 3, 1, 0, 0, 0, 0, 0, 0, 0, 0, 0, 15], bad),
+            (&[1, 1, 1, 1, 4, 1, 0, 0, 0, 0, 0, 0, 0, 0, 0, 15], bad),
+            (&[1, 1, 1, 1, 4, 3, 0, 0, 0, 0, 0, 0, 0, 0, 0, 15], bad),
+            (&[1, 1, 1, 1, 4, 2, 0, 0, 0, 0, 0, 0, 0, 0, 0, 15], Ok(())),
+            (&[1, 1, 1, 1, 5, 0, 0, 0, 8, 0, 0, 0, 0, 15], bad),
+            (&[1, 1, 1, 1, 5, 0, 0, 0, 7, 0, 0, 0, 7, 15], Ok(())),
+            (&[1, 1, 1, 1, 5, 0, 0, 0, 0, 0, 0, 0, 8, 15], bad),
+        ];
+        for (bytes, want) in cases {
+            expect(&rt, bytes, want);
+        }
     }
 
     #[test]
     fn a_clause_too_many(rt: HostRuntime) -> Result<(), Fail> {
-        let heap = rt.alloc();
-        let mut bytes = Vec::from_slice(heap, &[1, 1, 1, 0])?;
+        let mut bytes = Vec::from_slice(rt.alloc(), &[1, 1, 1, 0])?;
         for _ in 0..96 {
             bytes.extend_from_slice(&[2, 0, 1])?;
         }
-        let mut more = Vec::from_slice(heap, bytes.as_slice())?;
-        bytes.push(15)?;
-        expect(&rt, heap, bytes.as_slice(), Ok(()));
-        more.extend_from_slice(&[2, 0, 9, 15])?;
-        expect(
-            &rt,
-            heap,
-            more.as_slice(),
-            Err(PlanFault::TooManyClauses { offset: 292 }),
-        );
-        Ok(())
+        expect_records(&rt, &[bytes.as_slice()], Ok(()))?;
+        let too_many = Err(PlanFault::TooManyClauses { offset: 292 });
+        expect_records(&rt, &[bytes.as_slice(), &[2, 0, 9]], too_many)
     }
 
     // A clause of kind 3 or 4 whose masks have letters 0 to 7 only.
-    fn add_clause(
-        bytes: &mut Vec<u8>,
-        kind: u8,
-        letter: u8,
-        value: u8,
-        ones: u8,
-        zeros: u8,
-    ) -> Result<(), Fail> {
-        bytes.extend_from_slice(&[kind, letter, value])?;
-        bytes.extend_from_slice(&[0, 0, 0, ones])?;
-        bytes.extend_from_slice(&[0, 0, 0, zeros])?;
-        Ok(())
+    fn clause(kind: u8, letter: u8, value: u8, ones: u8, zeros: u8) -> [u8; 11] {
+        [kind, letter, value, 0, 0, 0, ones, 0, 0, 0, zeros]
     }
 
     #[test]
     fn loop_of_one(rt: HostRuntime) -> Result<(), Fail> {
-        let heap = rt.alloc();
-        let mut bytes = Vec::from_slice(heap, &[1, 1, 1, 1])?;
-        add_clause(&mut bytes, 4, 2, 1, 0, 4)?;
-        bytes.push(15)?;
-        expect(
-            &rt,
-            heap,
-            bytes.as_slice(),
-            Err(PlanFault::Loop { letter: 2 }),
-        );
-        Ok(())
+        let looped = Err(PlanFault::Loop { letter: 2 });
+        expect_records(&rt, &[&[1, 1, 1, 1], &clause(4, 2, 1, 0, 4)], looped)
     }
 
     // Auxiliaries are letters 2, 3 and 4. 3 depends on 4, that on 2, and without the last clause 2 on nothing.
     #[test]
     fn loop_of_three(rt: HostRuntime) -> Result<(), Fail> {
-        let heap = rt.alloc();
-        let mut bytes = Vec::from_slice(heap, &[1, 1, 1, 3])?;
-        add_clause(&mut bytes, 4, 3, 1, 16, 0)?;
-        add_clause(&mut bytes, 4, 4, 0, 0, 4)?;
-        let mut open = Vec::from_slice(heap, bytes.as_slice())?;
-        open.push(15)?;
-        expect(&rt, heap, open.as_slice(), Ok(()));
-        add_clause(&mut bytes, 4, 2, 0, 8, 0)?;
-        bytes.push(15)?;
-        expect(
-            &rt,
-            heap,
-            bytes.as_slice(),
-            Err(PlanFault::Loop { letter: 2 }),
-        );
-        Ok(())
+        let head = [1, 1, 1, 3];
+        let third = clause(4, 3, 1, 16, 0);
+        let fourth = clause(4, 4, 0, 0, 4);
+        let second = clause(4, 2, 0, 8, 0);
+        expect_records(&rt, &[&head, &third, &fourth], Ok(()))?;
+        let looped = Err(PlanFault::Loop { letter: 2 });
+        expect_records(&rt, &[&head, &third, &fourth, &second], looped)
     }
 
-    // The second next clause of two for bit 0, with opposite values.
-    fn expect_two(
-        rt: &impl Abort,
-        heap: Global,
+    // Two next clauses for bit 0 with opposite values, under these conditions.
+    fn expect_two<R: Abort + AllocGlobal>(
+        rt: &R,
         first: (u8, u8),
         second: (u8, u8),
-        want: Result<(), PlanFault>,
+        want: Read,
     ) -> Result<(), Fail> {
-        let mut bytes = Vec::from_slice(heap, &[1, 1, 1, 0])?;
-        let (ones, zeros) = first;
-        add_clause(&mut bytes, 3, 0, 1, ones, zeros)?;
-        let (ones, zeros) = second;
-        add_clause(&mut bytes, 3, 0, 0, ones, zeros)?;
-        bytes.push(15)?;
-        expect(rt, heap, bytes.as_slice(), want);
-        Ok(())
+        let up = clause(3, 0, 1, first.0, first.1);
+        let down = clause(3, 0, 0, second.0, second.1);
+        expect_records(rt, &[&[1, 1, 1, 0], &up, &down], want)
     }
 
     #[test]
     fn clashes(rt: HostRuntime) -> Result<(), Fail> {
-        let heap = rt.alloc();
         // With the line on 1, with it off 0: no clash. Without a condition: a clash.
-        expect_two(&rt, heap, (2, 0), (0, 2), Ok(()))?;
-        expect_two(
-            &rt,
-            heap,
-            (2, 0),
-            (0, 0),
-            Err(PlanFault::Clash { offset: 15 }),
-        )?;
+        expect_two(&rt, (2, 0), (0, 2), Ok(()))?;
+        let clash = Err(PlanFault::Clash { offset: 15 });
+        expect_two(&rt, (2, 0), (0, 0), clash)?;
         // A letter in both masks: the condition is never true, so nothing clashes with it.
-        expect_two(&rt, heap, (2, 2), (0, 0), Ok(()))
+        expect_two(&rt, (2, 2), (0, 0), Ok(()))
     }
 
     #[test]
     fn clash_across_repeats(rt: HostRuntime) {
-        let heap = rt.alloc();
-        expect(&rt, heap, &[1, 1, 1, 0, 2, 0, 1, 2, 0, 1, 15], Ok(()));
+        expect(&rt, &[1, 1, 1, 0, 2, 0, 1, 2, 0, 1, 15], Ok(()));
         expect(
             &rt,
-            heap,
             &[1, 1, 1, 0, 2, 0, 1, 2, 0, 1, 2, 0, 0, 15],
             Err(PlanFault::Clash { offset: 10 }),
         );
@@ -255,94 +171,62 @@ mod tests {
     // Letters 2 and 3 are auxiliaries; the clause of 3 comes first, and each depends on itself.
     #[test]
     fn the_lowest_loop(rt: HostRuntime) -> Result<(), Fail> {
-        let heap = rt.alloc();
-        let mut bytes = Vec::from_slice(heap, &[1, 1, 1, 2])?;
-        add_clause(&mut bytes, 4, 3, 1, 8, 0)?;
-        add_clause(&mut bytes, 4, 2, 1, 4, 0)?;
-        bytes.push(15)?;
-        expect(
-            &rt,
-            heap,
-            bytes.as_slice(),
-            Err(PlanFault::Loop { letter: 2 }),
-        );
-        Ok(())
+        let third = clause(4, 3, 1, 8, 0);
+        let second = clause(4, 2, 1, 4, 0);
+        let looped = Err(PlanFault::Loop { letter: 2 });
+        expect_records(&rt, &[&[1, 1, 1, 2], &third, &second], looped)
     }
 
     // The next clauses at 4 and 15 clash; the auxiliary, letter 2, depends on itself: that comes first.
     #[test]
     fn a_loop_comes_before_a_clash(rt: HostRuntime) -> Result<(), Fail> {
-        let heap = rt.alloc();
-        let mut bytes = Vec::from_slice(heap, &[1, 1, 1, 1])?;
-        add_clause(&mut bytes, 3, 0, 1, 0, 0)?;
-        add_clause(&mut bytes, 3, 0, 0, 0, 0)?;
-        add_clause(&mut bytes, 4, 2, 1, 4, 0)?;
-        bytes.push(15)?;
-        expect(
-            &rt,
-            heap,
-            bytes.as_slice(),
-            Err(PlanFault::Loop { letter: 2 }),
-        );
-        Ok(())
+        let up = clause(3, 0, 1, 0, 0);
+        let down = clause(3, 0, 0, 0, 0);
+        let second = clause(4, 2, 1, 4, 0);
+        let looped = Err(PlanFault::Loop { letter: 2 });
+        expect_records(&rt, &[&[1, 1, 1, 1], &up, &down, &second], looped)
     }
 
     // A next clause at 4, start clauses at 15 and 18 that clash, and at 21 a next clause that clashes with the first.
     #[test]
     fn the_lowest_clash(rt: HostRuntime) -> Result<(), Fail> {
-        let heap = rt.alloc();
-        let mut bytes = Vec::from_slice(heap, &[1, 1, 1, 0])?;
-        add_clause(&mut bytes, 3, 0, 1, 0, 0)?;
-        bytes.extend_from_slice(&[2, 0, 1, 2, 0, 0])?;
-        add_clause(&mut bytes, 3, 0, 0, 0, 0)?;
-        bytes.push(15)?;
-        expect(
-            &rt,
-            heap,
-            bytes.as_slice(),
-            Err(PlanFault::Clash { offset: 18 }),
-        );
-        Ok(())
+        let up = clause(3, 0, 1, 0, 0);
+        let starts = [2, 0, 1, 2, 0, 0];
+        let down = clause(3, 0, 0, 0, 0);
+        let clash = Err(PlanFault::Clash { offset: 18 });
+        expect_records(&rt, &[&[1, 1, 1, 0], &up, &starts, &down], clash)
     }
 
     // The start clauses at 4 and 7 clash; what is wrong with a later record or after the end comes first.
     #[test]
     fn a_clash_is_told_last(rt: HostRuntime) {
-        let heap = rt.alloc();
-        expect(
-            &rt,
-            heap,
-            &[1, 1, 1, 0, 2, 0, 1, 2, 0, 0, 2, 1, 0, 15],
-            Err(PlanFault::Malformed { offset: 10 }),
-        );
-        expect(
-            &rt,
-            heap,
-            &[1, 1, 1, 0, 2, 0, 1, 2, 0, 0, 15, 0],
-            Err(PlanFault::Bytes(BytesFault::AfterEnd { offset: 11 })),
-        );
-        expect(
-            &rt,
-            heap,
-            &[1, 1, 1, 0, 2, 0, 1, 2, 0, 0, 1, 1, 1, 0, 15],
-            Err(PlanFault::HeadMisplaced { offset: 10 }),
-        );
+        let cases: [(&[u8], PlanFault); 3] = [
+            (
+                &[1, 1, 1, 0, 2, 0, 1, 2, 0, 0, 2, 1, 0, 15],
+                PlanFault::Malformed { offset: 10 },
+            ),
+            (
+                &[1, 1, 1, 0, 2, 0, 1, 2, 0, 0, 15, 0],
+                PlanFault::Bytes(BytesFault::AfterEnd { offset: 11 }),
+            ),
+            (
+                &[1, 1, 1, 0, 2, 0, 1, 2, 0, 0, 1, 1, 1, 0, 15],
+                PlanFault::HeadMisplaced { offset: 10 },
+            ),
+        ];
+        for (bytes, fault) in cases {
+            expect(&rt, bytes, Err(fault));
+        }
     }
 
     #[test]
     fn what_is_not_said_is_free(rt: HostRuntime) -> Result<(), Fail> {
         // One bit, one line, one auxiliary without clauses, and a ban on it: every pair may meet the ban.
         // Nothing forces the bit, so both states follow every pair.
-        match Plan::read(rt.alloc(), &[1, 1, 1, 1, 5, 0, 0, 0, 4, 0, 0, 0, 0, 15]) {
-            Ok(plan) => {
-                assert!(rt; !plan.is_safe(0, 0) && !plan.is_safe(1, 1));
-                assert!(rt;
-                    plan.follows(1, 0, 0) && plan.follows(1, 0, 1) && plan.follows(0, 1, 1)
-                );
-                assert!(rt; plan.is_start(0) && plan.is_start(1) && !plan.is_start(2));
-                Ok(())
-            }
-            Err(_) => Err(Fail::new("the plan was turned away")),
-        }
+        let plan = Plan::read(rt.alloc(), &[1, 1, 1, 1, 5, 0, 0, 0, 4, 0, 0, 0, 0, 15])?;
+        assert!(rt; !plan.is_safe(0, 0) && !plan.is_safe(1, 1));
+        assert!(rt; plan.follows(1, 0, 0) && plan.follows(1, 0, 1) && plan.follows(0, 1, 1));
+        assert!(rt; plan.is_start(0) && plan.is_start(1) && !plan.is_start(2));
+        Ok(())
     }
 }

@@ -4,6 +4,7 @@
 use plan::Plan;
 use std::alloc::Global;
 use std::fs;
+use tally::count_agreed;
 
 // What reading the bytes comes to, as a line of text.
 fn verdict(heap: Global, bytes: &[u8]) -> anyhow::Result<String> {
@@ -16,25 +17,26 @@ fn verdict(heap: Global, bytes: &[u8]) -> anyhow::Result<String> {
     }
 }
 
-fn main(rt: HostRuntime) -> anyhow::Result<()> {
+// Whether the stored plan comes to what is expected.
+fn agrees(rt: &HostRuntime, name: &str, want: &str) -> anyhow::Result<bool> {
     let heap = rt.alloc();
-    let expected = fs::read_to_string(&rt, "expected.txt")?;
-    let mut agreed = 0u32;
-    let mut all = 0u32;
-    for line in expected.as_str().lines() {
-        let Some((name, want)) = line.split_once(' ') else {
-            continue;
-        };
-        let path = format!(in heap; "{name}.plan")?;
-        let bytes = fs::read(&rt, path.as_str())?;
-        let found = verdict(heap, bytes.as_slice())?;
-        all = all.saturating_add(1);
-        if found.as_str() == want {
-            agreed = agreed.saturating_add(1);
-        } else {
-            println!(rt; "{found} is not as expected: {line}")?;
-        }
+    let path = format!(in heap; "{name}.plan")?;
+    let bytes = fs::read(rt, path.as_str())?;
+    let found = verdict(heap, bytes.as_slice())?;
+    if found.as_str() == want {
+        return Ok(true);
     }
-    println!(rt; "{agreed} of {all} plans agreed")?;
+    println!(rt; "{found} is not as expected: {name} {want}")?;
+    Ok(false)
+}
+
+fn main(rt: HostRuntime) -> anyhow::Result<()> {
+    let expected = fs::read_to_string(&rt, "expected.txt")?;
+    let cases = expected
+        .as_str()
+        .lines()
+        .filter_map(|line| line.split_once(' '));
+    let tally = count_agreed(cases, |(name, want)| agrees(&rt, name, want))?;
+    println!(rt; "{tally} plans agreed")?;
     Ok(())
 }

@@ -1,7 +1,7 @@
 -- Tests over the numbers below a bound, as statements about each of them. Assumes nothing.
-use Rattle.std.proofs.Common.{◌≡◌, ℕ, ◌<◌, Bool, true, false, Decides, sym, refl}
-use Rattle.std.proofs.lemmas.Bool.{both_ways}
-use Rattle.std.proofs.lemmas.Bool.Decides.{Decides-below_and, Decides-below_or}
+use Rattle.std.proofs.Common.{◌≡◌, ℕ, zero, suc, ◌+◌, ◌<◌, ◌≤◌, Bool, true, false, Decides, sym, refl, subst, ⊎_elim, arith}
+use Rattle.std.specs.List.{list_all, list_any, range_with_len}
+use Rattle.std.proofs.lemmas.Bool.{and_from, and_parts, both_ways, cases_lt, or_cases, or_left, or_right, false≢true}
 use Rattle.plant.specs.Bounded.{all_below, any_below}
 
 -- a test decides that it is true
@@ -19,11 +19,39 @@ same_tests true c f g = sym (f refl)
 same_tests false true f g = g refl
 same_tests false false f g = refl
 
+-- the numbers from a on, so many of them
+decides_all_from : (p : ℕ → Bool) (a n : ℕ) → Decides (list_all p (range_with_len a n)) ((k : ℕ) → a ≤ k → k < a + n → p k ≡ true)
+decides_all_from p a zero = (λ _ k from below. absurd (omega arith), λ _. refl)
+decides_all_from p a (suc n) =
+    let rest = decides_all_from p (a + 1) n in (
+      λ e k from below.
+          let parts = and_parts (p a) _ e in
+          ⊎_elim (λ later. rest.0 parts.1 k (omega arith) (omega arith)) (λ here. let is : a ≡ k = omega arith in subst (λ j. p j ≡ true) is parts.0) (cases_lt a k),
+      λ each. and_from (p a) _ (each a (omega arith) (omega arith)) (rest.1 (λ k from below. each k (omega arith) (omega arith))),
+    )
+
+decides_any_from : (p : ℕ → Bool) (a n : ℕ) → Decides (list_any p (range_with_len a n)) ((k : ℕ) × (a ≤ k) × (k < a + n) × (p k ≡ true))
+decides_any_from p a zero = (λ e. absurd (false≢true e), λ w. absurd (let f = w.1 in let b = w.2 in omega arith))
+decides_any_from p a (suc n) =
+    let rest = decides_any_from p (a + 1) n in (
+      λ e. ⊎_elim
+          (λ here. (a, omega arith, omega arith, here))
+          (λ later. let w = rest.0 later in (w.0, let f = w.1 in omega arith, let b = w.2 in omega arith, w.3))
+          (or_cases (p a) _ e),
+      λ w. ⊎_elim
+          (λ later. or_right (p a) _ (rest.1 (w.0, omega arith, let b = w.2 in omega arith, w.3)))
+          (λ here. or_left (p a) _ (let f = w.1 in let is : w.0 ≡ a = omega arith in subst (λ j. p j ≡ true) is w.3))
+          (cases_lt a w.0),
+    )
+
 pub decides_all : (p : ℕ → Bool) (n : ℕ) → Decides (all_below p n) ((k : ℕ) → k < n → p k ≡ true)
-decides_all p = Decides-below_and p (λ k. p k ≡ true) (all_below p) (λ k. decides_itself (p k)) refl (λ _. refl)
+decides_all p n = (λ e k lt. (decides_all_from p 0 n).0 e k (omega arith) (omega arith), λ each. (decides_all_from p 0 n).1 (λ k _ below. each k (omega arith)))
 
 pub decides_any : (p : ℕ → Bool) (n : ℕ) → Decides (any_below p n) ((k : ℕ) × (k < n) × (p k ≡ true))
-decides_any p = Decides-below_or p (λ k. p k ≡ true) (any_below p) (λ k. decides_itself (p k)) refl (λ _. refl)
+decides_any p n = (
+  λ e. let w = (decides_any_from p 0 n).0 e in (w.0, let b = w.2 in omega arith, w.3),
+  λ w. (decides_any_from p 0 n).1 (w.0, omega arith, let b = w.1 in omega arith, w.2),
+)
 
 -- where p fails at every number below n, no number below n passes
 pub any_from_none : (p : ℕ → Bool) (n : ℕ) → ((k : ℕ) → k < n → p k ≡ false) → any_below p n ≡ false

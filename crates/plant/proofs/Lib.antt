@@ -2,6 +2,7 @@ pub mod Assignments
 pub mod Bits
 pub mod Bounded
 pub mod Conditions
-pub mod Sizes
+pub mod Firsts
+pub mod Limits
 pub mod Staying
 pub mod Tests

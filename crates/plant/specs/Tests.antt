@@ -1,17 +1,13 @@
 -- Tests over truth values and lists. Assumes nothing.
-use Rattle.std.specs.Prelude.{Bool, true, false, not, ◌&&◌, ◌||◌, List, [], ◌∷◌}
+use Rattle.std.specs.Prelude.{◌≡◌, ℕ, ◌<◌, Bool, true, false, not, List, length, slice_index_or}
 
 -- whether two truth values are the same
 abbrev pub same : Bool → Bool → Bool
 same true v = v
 same false v = not v
 
--- whether p holds of every element
-abbrev pub all_of : {X : Type 0} → (X → Bool) → List X → Bool
-all_of p [] = true
-all_of p (x ∷ xs) = p x && all_of p xs
-
--- whether p holds of some element
-abbrev pub some_of : {X : Type 0} → (X → Bool) → List X → Bool
-some_of p [] = false
-some_of p (x ∷ xs) = p x || some_of p xs
+-- the element at i fails p, and no element before it does
+pub record FirstMisfit {X : Type 0} (p : X → Bool) (xs : List X) (i : ℕ) : Type 0 where
+  pub inside : i < length xs
+  pub fails : (d : X) → p (slice_index_or xs i d) ≡ false
+  pub first : (k : ℕ) (d : X) → k < i → p (slice_index_or xs k d) ≡ true

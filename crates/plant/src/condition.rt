@@ -1,7 +1,7 @@
 // Conditions over the letters of a word: bit i of a word or of a mask stands for letter i.
 ghost use Rattle.std.specs.Prelude.{◌≡◌};
 ghost use Rattle.plant.specs.Conditions.{holds};
-ghost use Rattle.plant.specs.Tests.{some_of};
+ghost use Rattle.std.specs.List.{list_any};
 
 // A condition is true in a word where each letter of `ones` is 1 and each letter of `zeros` is 0.
 #[derive(Clone, Copy, PartialEq, Eq, Debug)]
@@ -19,21 +19,9 @@ impl Condition {
     }
 }
 
-// Looks through the list for a condition that is true in the word.
-fn found_true(conditions: &[Condition], word: u32) -> bool
-    ensures { result ≡ some_of (λ c. holds c word) conditions.now }
-{
-    for condition in conditions {
-        if condition.holds(word) {
-            return true;
-        }
-    }
-    false
-}
-
 // Whether some condition of the list is true in the word.
 pub fn some_holds(conditions: &[Condition], word: u32) -> bool
-    ensures { result ≡ some_of (λ c. holds c word) conditions.now }
+    ensures { result ≡ list_any (λ c. holds c word) conditions.now }
 {
-    found_true(conditions, word)
+    conditions.iter().any(|condition| condition.holds(word))
 }

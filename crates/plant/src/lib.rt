@@ -6,11 +6,13 @@ ghost use Rattle.plant.specs.Meaning.{Meaning, Within};
 
 mod condition;
 mod digits;
-mod limits;
+mod lent;
+mod sizes;
 
 pub use condition::{Condition, some_holds};
 pub use digits::has_bit;
-pub use limits::sizes_fit;
+pub use lent::WrongLength;
+pub use sizes::{Sizes, sizes_fit};
 
 // The most state bits that a plant may have.
 pub const MAX_STATE_BITS: u32 = 8;
@@ -19,7 +21,7 @@ pub const MAX_STATE_BITS: u32 = 8;
 pub const MAX_LINES: u32 = 4;
 
 // The most states that a plant may have: 2 to the power MAX_STATE_BITS.
-pub const MAX_STATES: usize = 256;
+pub const MAX_STATES: usize = 1 << MAX_STATE_BITS;
 
 // One bit for each setting of the drive lines: 2 to the power MAX_LINES bits.
 pub type Row = u16;
@@ -44,12 +46,23 @@ pub trait Plant {
         ensures { result ≡ (meaning self.now).start state };
 
     // Whether `setting` is safe in `state`.
+    // The two stay two numbers: any may be asked about, so a struct of both would carry no fact.
     fn is_safe(&self, state: u32, setting: u32) -> bool
         ensures { result ≡ (meaning self.now).safe state setting };
 
     // Whether `next` may follow `state` under `setting`.
     fn follows(&self, state: u32, setting: u32, next: u32) -> bool
         ensures { result ≡ (meaning self.now).follows state setting next };
+
+    // Both sizes.
+    fn sizes(&self) -> Sizes
+        ensures { (result.state_bits ≡ (meaning self.now).bits) × (result.lines ≡ (meaning self.now).lines) }
+    {
+        Sizes {
+            state_bits: self.state_bits(),
+            lines: self.lines(),
+        }
+    }
 
     // The number of states.
     fn states(&self) -> u32

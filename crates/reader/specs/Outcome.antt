@@ -8,7 +8,7 @@ use Rattle.reader.specs.Strings.{Faithful, answers, phase_after, happened}
 use Rattle.reader.specs.declared.call.Call.{Call}
 use Rattle.reader.specs.declared.phase.Phase.{Phase}
 use Rattle.reader.specs.declared.phase.Phase.TheVariants.{Closed}
-use Rattle.reader.specs.declared.reader.AnswerPlaces.{AnswerPlaces}
+use Rattle.plant.specs.declared.lent.WrongLength.{WrongLength}
 
 -- every call is answered, and the phase is the one after all of them; on a new reader with faithful rules all of it keeps the law,
 -- and the next call is taken exactly when it is permitted
@@ -19,7 +19,7 @@ pub record Ran (m : Meaning) (rs : List Rule) (before now_at : Phase) (calls : L
   pub next : Faithful m rs → before ≡ Closed → (c : Call) → Decides (is_ok (answer m rs now_at c)) (Permitted m now_at c)
 
 -- a wrong number of places is answered with the right one and nothing is changed; else every call is made
-pub record Run (m : Meaning) (rs : List Rule) (before now_at : Phase) (calls : List Call) (places given : List Answer) (r : Result (Unit {0}) AnswerPlaces) : Type 0 where
+pub record Run (m : Meaning) (rs : List Rule) (before now_at : Phase) (calls : List Call) (places given : List Answer) (r : Result (Unit {0}) WrongLength) : Type 0 where
   pub refused : (length places ≢ length calls) → (r ≡ Err (record { needed = length calls })) × (given ≡ places) × (now_at ≡ before)
   pub answer : length places ≡ length calls → r ≡ Ok tt
   pub ran : length places ≡ length calls → Ran m rs before now_at calls given

@@ -21,6 +21,7 @@ pub enum LogFault {
 
 impl LogFault {
     // The fault's number, place and layer.
+    // A method and no `From`: of some faults there is no refusal, and one name asks all of them.
     pub fn refusal(&self) -> Refusal
         ensures { result ≡ log_refusal self.now }
     {

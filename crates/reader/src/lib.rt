@@ -9,4 +9,4 @@ mod reader;
 pub use call::Call;
 pub use fault::LogFault;
 pub use phase::Phase;
-pub use reader::{AnswerPlaces, Reader, begun, driven, seen};
+pub use reader::{Reader, begun, driven, seen};

@@ -10,62 +10,64 @@ ghost use Rattle.reader.specs.declared.phase.Phase.TheVariants.{Closed, Poised, 
 use crate::call::Call;
 use crate::fault::LogFault;
 use crate::phase::Phase;
-use plant::Plant;
-use rules::{Rule, fits};
-
-// The places lent for answers are not one for each call: so many are needed.
-#[derive(Clone, Copy, PartialEq, Eq, Debug)]
-pub struct AnswerPlaces {
-    pub needed: usize,
-}
+use plant::{Plant, WrongLength};
+use rules::RuledPlant;
 
 #[derive(Clone, Copy, PartialEq, Eq, Debug)]
 pub struct Reader {
     phase: Phase,
 }
 
+// The phase after a number was offered: taken where it is below the size and passes the test, else this is the fault.
+fn offered(
+    size: u32,
+    number: u32,
+    passes: bool,
+    fault: LogFault,
+    next: Phase,
+) -> Result<Phase, LogFault>
+    ensures { result ≡ offered size number passes fault next }
+{
+    if number >= size {
+        return Err(LogFault::BeyondSizes { number });
+    }
+    if !passes {
+        return Err(fault);
+    }
+    Ok(next)
+}
+
 // The phase after a begin of `state`, where no session is open.
 pub fn begun<P: Plant>(plant: &P, state: u32) -> Result<Phase, LogFault>
     ensures { result ≡ offered (states (P.meaning plant.now)) state ((P.meaning plant.now).start state) (NoStart state) (Poised state) }
 {
-    if state >= plant.states() {
-        return Err(LogFault::BeyondSizes { number: state });
-    }
-    if !plant.is_start(state) {
-        return Err(LogFault::NoStart { state });
-    }
-    Ok(Phase::Poised { state })
+    let fault = LogFault::NoStart { state };
+    let next = Phase::Poised { state };
+    offered(plant.states(), state, plant.is_start(state), fault, next)
 }
 
 // The phase after `setting` was made in `state`.
 pub fn driven<P: Plant>(
-    plant: &P,
-    rules: &[Rule],
+    ruled: &RuledPlant<'_, P>,
     state: u32,
     setting: u32,
 ) -> Result<Phase, LogFault>
-    ensures { result ≡ offered (settings (P.meaning plant.now)) setting (fits_there (P.meaning plant.now) rules.now state setting) (Misfit setting) (Driven state setting) }
+    ensures { result ≡ offered (settings (P.meaning ruled.now.plant.now)) setting (fits_there (P.meaning ruled.now.plant.now) ruled.now.rules.now state setting) (Misfit setting) (Driven state setting) }
 {
-    if setting >= plant.settings() {
-        return Err(LogFault::BeyondSizes { number: setting });
-    }
-    if !fits(plant, rules, state, setting) {
-        return Err(LogFault::Misfit { setting });
-    }
-    Ok(Phase::Driven { state, setting })
+    let fits = ruled.fits(state, setting);
+    let fault = LogFault::Misfit { setting };
+    let next = Phase::Driven { state, setting };
+    offered(ruled.plant.settings(), setting, fits, fault, next)
 }
 
 // The phase after the machine was seen in `next`, driven by `setting` in `state`.
 pub fn seen<P: Plant>(plant: &P, state: u32, setting: u32, next: u32) -> Result<Phase, LogFault>
     ensures { result ≡ offered (states (P.meaning plant.now)) next ((P.meaning plant.now).follows state setting next) (NotFollowing next) (Poised next) }
 {
-    if next >= plant.states() {
-        return Err(LogFault::BeyondSizes { number: next });
-    }
-    if !plant.follows(state, setting, next) {
-        return Err(LogFault::NotFollowing { state: next });
-    }
-    Ok(Phase::Poised { state: next })
+    let follows = plant.follows(state, setting, next);
+    let fault = LogFault::NotFollowing { state: next };
+    let poised = Phase::Poised { state: next };
+    offered(plant.states(), next, follows, fault, poised)
 }
 
 impl Reader {
@@ -85,17 +87,15 @@ impl Reader {
     }
 
     // One call: what it does depends on the phase and the call together.
-    pub fn make<P: Plant>(&mut self, plant: &P, rules: &[Rule], call: Call) -> Result<(), LogFault>
-        ensures answers { result ≡ answer (P.meaning plant.now) rules.now self.old.phase call }
-        ensures moves { self.new.phase ≡ after (P.meaning plant.now) rules.now self.old.phase call }
+    pub fn make<P: Plant>(&mut self, ruled: &RuledPlant<'_, P>, call: Call) -> Result<(), LogFault>
+        ensures answers { result ≡ answer (P.meaning ruled.now.plant.now) ruled.now.rules.now self.old.phase call }
+        ensures moves { self.new.phase ≡ after (P.meaning ruled.now.plant.now) ruled.now.rules.now self.old.phase call }
     {
         let next = match (self.phase, call) {
-            (Phase::Closed, Call::Begin { state }) => begun(plant, state)?,
-            (Phase::Poised { state }, Call::Set { setting }) => {
-                driven(plant, rules, state, setting)?
-            }
+            (Phase::Closed, Call::Begin { state }) => begun(ruled.plant, state)?,
+            (Phase::Poised { state }, Call::Set { setting }) => { driven(ruled, state, setting)? }
             (Phase::Driven { state, setting }, Call::See { state: next }) => {
-                seen(plant, state, setting, next)?
+                seen(ruled.plant, state, setting, next)?
             }
             (Phase::Poised { .. } | Phase::Driven { .. }, Call::Close) => Phase::Closed,
             (phase, _) => return Err(LogFault::OutOfTurn { phase }),
@@ -105,50 +105,50 @@ impl Reader {
     }
 
     // A session begins: taken when closed and `state` is a start.
-    pub fn begin<P: Plant>(&mut self, plant: &P, rules: &[Rule], state: u32) -> Result<(), LogFault>
-        ensures answers { result ≡ answer (P.meaning plant.now) rules.now self.old.phase (Begin state) }
-        ensures moves { self.new.phase ≡ after (P.meaning plant.now) rules.now self.old.phase (Begin state) }
+    pub fn begin<P: Plant>(&mut self, ruled: &RuledPlant<'_, P>, state: u32) -> Result<(), LogFault>
+        ensures answers { result ≡ answer (P.meaning ruled.now.plant.now) ruled.now.rules.now self.old.phase (Begin state) }
+        ensures moves { self.new.phase ≡ after (P.meaning ruled.now.plant.now) ruled.now.rules.now self.old.phase (Begin state) }
     {
-        self.make(plant, rules, Call::Begin { state })
+        self.make(ruled, Call::Begin { state })
     }
 
     // A setting is made: taken when poised and it fits there.
-    pub fn set<P: Plant>(&mut self, plant: &P, rules: &[Rule], setting: u32) -> Result<(), LogFault>
-        ensures answers { result ≡ answer (P.meaning plant.now) rules.now self.old.phase (Set setting) }
-        ensures moves { self.new.phase ≡ after (P.meaning plant.now) rules.now self.old.phase (Set setting) }
+    pub fn set<P: Plant>(&mut self, ruled: &RuledPlant<'_, P>, setting: u32) -> Result<(), LogFault>
+        ensures answers { result ≡ answer (P.meaning ruled.now.plant.now) ruled.now.rules.now self.old.phase (Set setting) }
+        ensures moves { self.new.phase ≡ after (P.meaning ruled.now.plant.now) ruled.now.rules.now self.old.phase (Set setting) }
     {
-        self.make(plant, rules, Call::Set { setting })
+        self.make(ruled, Call::Set { setting })
     }
 
     // The machine is seen: taken when driven and `state` follows the pair.
-    pub fn see<P: Plant>(&mut self, plant: &P, rules: &[Rule], state: u32) -> Result<(), LogFault>
-        ensures answers { result ≡ answer (P.meaning plant.now) rules.now self.old.phase (See state) }
-        ensures moves { self.new.phase ≡ after (P.meaning plant.now) rules.now self.old.phase (See state) }
+    pub fn see<P: Plant>(&mut self, ruled: &RuledPlant<'_, P>, state: u32) -> Result<(), LogFault>
+        ensures answers { result ≡ answer (P.meaning ruled.now.plant.now) ruled.now.rules.now self.old.phase (See state) }
+        ensures moves { self.new.phase ≡ after (P.meaning ruled.now.plant.now) ruled.now.rules.now self.old.phase (See state) }
     {
-        self.make(plant, rules, Call::See { state })
+        self.make(ruled, Call::See { state })
     }
 
     // The session ends: taken when not closed.
-    pub fn close<P: Plant>(&mut self, plant: &P, rules: &[Rule]) -> Result<(), LogFault>
-        ensures answers { result ≡ answer (P.meaning plant.now) rules.now self.old.phase Close }
-        ensures moves { self.new.phase ≡ after (P.meaning plant.now) rules.now self.old.phase Close }
+    pub fn close<P: Plant>(&mut self, ruled: &RuledPlant<'_, P>) -> Result<(), LogFault>
+        ensures answers { result ≡ answer (P.meaning ruled.now.plant.now) ruled.now.rules.now self.old.phase Close }
+        ensures moves { self.new.phase ≡ after (P.meaning ruled.now.plant.now) ruled.now.rules.now self.old.phase Close }
     {
-        self.make(plant, rules, Call::Close)
+        self.make(ruled, Call::Close)
     }
 
     // Makes each call in turn, and writes its answer at its place.
     fn answer_all<P: Plant>(
         &mut self,
-        plant: &P,
-        rules: &[Rule],
+        ruled: &RuledPlant<'_, P>,
         calls: &[Call],
         answers: &mut [Result<(), LogFault>],
     )
         requires { length calls.now ≡ length answers.old }
-        ensures { Ran (P.meaning plant.now) rules.now self.old.phase self.new.phase calls.now answers.new }
+        ensures { Ran (P.meaning ruled.now.plant.now) ruled.now.rules.now self.old.phase self.new.phase calls.now answers.new }
     {
+        // By index: zipped with `answers.iter_mut()`, the proof of what the places hold afterwards did not close.
         for (i, call) in calls.iter().enumerate() {
-            answers[i] = self.make(plant, rules, *call);
+            answers[i] = self.make(ruled, *call);
         }
     }
 
@@ -156,18 +156,17 @@ impl Reader {
     // Where there is not a place for each answer, no call is made.
     pub fn run<P: Plant>(
         &mut self,
-        plant: &P,
-        rules: &[Rule],
+        ruled: &RuledPlant<'_, P>,
         calls: &[Call],
         answers: &mut [Result<(), LogFault>],
-    ) -> Result<(), AnswerPlaces>
-        ensures { Run (P.meaning plant.now) rules.now self.old.phase self.new.phase calls.now answers.old answers.new result }
+    ) -> Result<(), WrongLength>
+        ensures { Run (P.meaning ruled.now.plant.now) ruled.now.rules.now self.old.phase self.new.phase calls.now answers.old answers.new result }
     {
         if answers.len() != calls.len() {
             let needed = calls.len();
-            return Err(AnswerPlaces { needed });
+            return Err(WrongLength { needed });
         }
-        self.answer_all(plant, rules, calls, answers);
+        self.answer_all(ruled, calls, answers);
         Ok(())
     }
 }

@@ -1,34 +1,17 @@
 -- What a found record, or its fault, says of the bytes. Assumes nothing.
-use Rattle.std.proofs.Common.{◌≡◌, ℕ, ◌+◌, ◌<◌, ◌≤◌, Bool, true, false, cond, eqb, ltb, ◌⊎◌, List, ◌∷◌, ◌++◌, length, get_or, drop, Some, None, Ok, Err, Option, Result, sym, refl, ap, ◌∙◌, subst, inl, inr, arith}
+use Rattle.std.proofs.Common.{◌≡◌, ℕ, ◌+◌, ◌<◌, ◌≤◌, List, ◌∷◌, ◌++◌, length, get_or, drop, Some, Ok, Err, Result, sym, refl, ap, ◌∙◌, subst, inl, inr, arith}
 use Rattle.std.proofs.lemmas.List.{drop_more, length-append}
-use Rattle.std.proofs.lemmas.Bool.{cond-false, eqb-true, le-ltb, ltb-true, ltb-false}
+use Rattle.std.proofs.lemmas.Bool.Decides.{nat_tests}
 use Rattle.records.specs.Damage.{Damaged}
 use Rattle.records.specs.Ending.{Ended}
-use Rattle.records.specs.Reading.{record_at, body_length}
+use Rattle.records.specs.Reading.{Kind, Record, body_length, record_at}
 use Rattle.records.specs.declared.BytesFault.{BytesFault}
 use Rattle.records.specs.declared.BytesFault.TheVariants.{Unfinished, UnknownKind, AfterEnd}
-use Rattle.records.specs.declared.Kind.{Kind}
-use Rattle.records.specs.declared.Record.{Record}
 use Rattle.records.proofs.Standing.{Standing, nothing, strange, short, whole, standing, byte_there}
 
 -- two answers of different kinds are not the same
 pub err_ok : {X Y : Type 0} (e : Y) (x : X) → ◌≡◌ {A = Result X Y} (Err e) (Ok x) → ⊥
-err_ok e x is = let z : ◌≡◌ {A = ℕ} 0 1 = cc in omega arith
-
-none_some : (n : ℕ) → ◌≡◌ {A = Option ℕ} None (Some n) → ⊥
-none_some n is = let z : ◌≡◌ {A = ℕ} 0 1 = cc in omega arith
-
--- a known kind is the first of the list, with its length, or one of the rest
-pub first_or_rest : (a code body n : ℕ) (rest : Option ℕ) → cond (eqb a code) (Some body) rest ≡ Some n → ((code ≡ a) × (n ≡ body)) ⊎ (rest ≡ Some n)
-first_or_rest a code body n rest e = by (eqb a code) refl e
-  where
-    by : (t : Bool) → eqb a code ≡ t → cond t (Some body) rest ≡ Some n → ((code ≡ a) × (n ≡ body)) ⊎ (rest ≡ Some n)
-    by true is h = inl (sym (eqb-true a code is), (let z : body ≡ n = cc in sym z))
-    by false is h = inr h
-
--- no kind is left
-pub no_kind : {X : Type 0} (n : ℕ) → ◌≡◌ {A = Option ℕ} None (Some n) → X
-no_kind n is = absurd (none_some n is)
+err_ok e x is = grind arith
 
 -- the first byte of what is left
 pub one_byte : (bytes : List ℕ) (i j : ℕ) → i < length bytes → i + 1 ≡ j → drop i bytes ≡ get_or bytes i 0 ∷ drop j bytes
@@ -46,7 +29,7 @@ pub record Found (bytes : List ℕ) (kinds : List Kind) (at : ℕ) (r : Record) 
 module _ (bytes : List ℕ) (kinds : List Kind) (at : ℕ) where
   -- past the bytes there is no record
   pub none_there : length bytes ≤ at → record_at bytes kinds at ≡ Err (Unfinished at)
-  none_there past = cond-false (ltb at (length bytes)) _ _ (le-ltb at (length bytes) past)
+  none_there past = grind (arith, nat_tests)
 
   pub found : (r : Record) → record_at bytes kinds at ≡ Ok r → Found bytes kinds at r
   found r e = by (record_at bytes kinds at) (standing kinds bytes at) e
@@ -78,15 +61,7 @@ module _ (bytes : List ℕ) (kinds : List Kind) (at : ℕ) where
 
 -- a byte was found after the end, or none
 pub ended_err : (bytes : List ℕ) (o : ℕ) (e : BytesFault) → Ended bytes o (Err e) → (o < length bytes) × (e ≡ AfterEnd o)
-ended_err bytes o e is = by (ltb o (length bytes)) refl is
-  where
-    by : (t : Bool) → ltb o (length bytes) ≡ t → ◌≡◌ {A = Result (Unit {0}) BytesFault} (Err e) (cond t (Err (AfterEnd o)) (Ok tt)) → (o < length bytes) × (e ≡ AfterEnd o)
-    by true lt same = (ltb-true o (length bytes) lt, (let z : e ≡ AfterEnd o = cc in z))
-    by false lt same = absurd (err_ok e tt same)
+ended_err bytes o e is = grind (arith, nat_tests)
 
 pub ended_ok : (bytes : List ℕ) (o : ℕ) → Ended bytes o (Ok tt) → length bytes ≤ o
-ended_ok bytes o is = by (ltb o (length bytes)) refl is
-  where
-    by : (t : Bool) → ltb o (length bytes) ≡ t → ◌≡◌ {A = Result (Unit {0}) BytesFault} (Ok tt) (cond t (Err (AfterEnd o)) (Ok tt)) → length bytes ≤ o
-    by true lt same = absurd (err_ok (AfterEnd o) tt (sym same))
-    by false lt same = ltb-false o (length bytes) lt
+ended_ok bytes o is = grind (arith, nat_tests)

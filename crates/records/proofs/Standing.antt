@@ -2,11 +2,9 @@
 use Rattle.std.proofs.Common.{◌≡◌, ℕ, suc, ◌+◌, ◌-◌, ◌<◌, ◌≤◌, Bool, true, false, cond, ltb, List, [], ◌∷◌, ◌++◌, length, get_or, take, drop, Some, None, Ok, Err, Option, Result, sym, refl, ap, ◌∙◌, subst, arith}
 use Rattle.std.proofs.lemmas.List.{drop_all, drop_more, length-append, length-drop, length-take-le, take-append-drop, get_or-drop}
 use Rattle.std.proofs.lemmas.Bool.{cond-true, cond-false, lt-ltb, le-ltb, ltb-true, ltb-false}
-use Rattle.records.specs.Reading.{body_length, whole_record, record_at}
+use Rattle.records.specs.Reading.{Kind, Record, body_length, whole_record, record_at}
 use Rattle.records.specs.declared.BytesFault.{BytesFault}
 use Rattle.records.specs.declared.BytesFault.TheVariants.{Unfinished, UnknownKind}
-use Rattle.records.specs.declared.Kind.{Kind}
-use Rattle.records.specs.declared.Record.{Record}
 
 module _ (kinds : List Kind) (bs : List ℕ) where
   -- nothing, an unknown kind, a record that is cut short, or a whole record

@@ -3,3 +3,4 @@ pub mod Ending
 pub mod Faults
 pub mod Reading
 pub mod Running
+pub mod Typed

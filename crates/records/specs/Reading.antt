@@ -1,14 +1,27 @@
 -- What record stands at an offset. Assumes nothing.
-use Rattle.std.specs.Prelude.{ℕ, ◌+◌, ◌-◌, cond, List, [], ◌∷◌, length, Some, None, Ok, Err, Option, Result, ◌==◌, nat_lt, slice_index}
+use Rattle.std.specs.Prelude.{ℕ, ◌+◌, ◌-◌, cond, List, [], ◌∷◌, length, Some, None, Ok, Err, Option, Result, option_map, ◌==◌, nat_lt, slice_index}
 use Rattle.records.specs.declared.BytesFault.{BytesFault}
 use Rattle.records.specs.declared.BytesFault.TheVariants.{Unfinished, UnknownKind}
-use Rattle.records.specs.declared.Kind.{Kind}
-use Rattle.records.specs.declared.Record.{Record}
+
+-- a kind of record by its code, and how many bytes its body has
+pub record Kind : Type 0 where
+  pub code : ℕ
+  pub body : ℕ
+
+-- a record by the code of its kind: it begins at the offset, and its body lies before the end
+pub record Record : Type 0 where
+  pub offset : ℕ
+  pub code : ℕ
+  pub end : ℕ
 
 -- how many bytes the body of the kind has, where it is known
 abbrev pub body_length : List Kind → ℕ → Option ℕ
 body_length [] code = None
 body_length (k ∷ ks) code = cond (k.code == code) (Some k.body) (body_length ks code)
+
+-- the code itself, where it is known
+abbrev pub known : List Kind → ℕ → Option ℕ
+known kinds code = option_map (λ n. code) (body_length kinds code)
 
 -- a record of this code at the offset, whose body has n bytes, where the input has them
 abbrev pub whole_record : List ℕ → ℕ → ℕ → Option ℕ → Result Record BytesFault

@@ -2,7 +2,7 @@
 use Rattle.std.specs.Prelude.{ℕ, zero, suc, cond, List, length, Ok, Err, Result, ◌==◌, nat_lt}
 use Rattle.records.specs.declared.BytesFault.{BytesFault}
 use Rattle.records.specs.declared.BytesFault.TheVariants.{AfterEnd}
-use Rattle.records.specs.declared.Record.{Record}
+use Rattle.records.specs.Reading.{Record}
 
 -- what comes of one record: all is over, with this answer, or it goes on in this state at this offset
 pub data Next (S R : Type 0) : Type 0 where

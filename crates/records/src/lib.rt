@@ -1,25 +1,37 @@
 // Records: one byte of kind and a body whose length the kind fixes. Plans, rule files and log files are made of them.
 #![tactic(auto)]
 
-ghost use Rattle.std.specs.Prelude.{◌≡◌};
-ghost use Rattle.records.specs.Reading.{record_at, body_length};
+ghost use Rattle.std.specs.Prelude.{◌≡◌, ℕ, List, option_map, slice_index};
+ghost use Rattle.records.specs.Reading.{Kind, body_length, known, record_at};
+ghost use Rattle.records.specs.Typed.{by_code};
 ghost use Rattle.records.specs.Faults.{bytes_refusal};
 ghost use Rattle.records.specs.Ending.{Ended};
 
 use refusal::{Layer, Refusal};
 
-// A kind of record, and how many bytes its body has.
-#[derive(Clone, Copy, PartialEq, Eq, Debug)]
-pub struct Kind {
-    pub code: u8,
-    pub body: usize,
+// The kinds of record of one sort of file.
+pub trait FileKind: Copy {
+    // The code of each kind, and how many bytes its body has.
+    ghost kinds: { List Kind };
+
+    // The code of a kind.
+    ghost code: { Self → ℕ };
+
+    // The kind that this byte stands for, where there is one.
+    // Not `TryFrom`: each sort of file would need an error type, and a law that says what the clause says here.
+    fn from_code(byte: u8) -> Option<Self>
+        ensures { option_map code result ≡ known kinds byte };
+
+    // How many bytes the body of this kind has.
+    fn body(self) -> usize
+        ensures { body_length kinds (code self) ≡ Some result };
 }
 
 // A record: it begins at `offset` with its kind, and its body lies before `end`.
 #[derive(Clone, Copy, PartialEq, Eq, Debug)]
-pub struct Record {
+pub struct Record<K> {
     pub offset: usize,
-    pub code: u8,
+    pub kind: K,
     pub end: usize,
 }
 
@@ -36,6 +48,7 @@ pub enum BytesFault {
 
 impl BytesFault {
     // The fault's number, place and layer.
+    // A method and no `From`: of some faults there is no refusal, and one name asks all of them.
     pub fn refusal(&self) -> Refusal
         ensures { result ≡ bytes_refusal self.now }
     {
@@ -53,34 +66,29 @@ impl BytesFault {
     }
 }
 
-// How many bytes the body of this kind has, where the kind is known.
-fn body_length(kinds: &[Kind], code: u8) -> Option<usize>
-    ensures { result ≡ body_length kinds.now code }
+// The byte at `i`, 0 past the end.
+pub fn byte_at(bytes: &[u8], i: usize) -> u8
+    ensures { result ≡ slice_index bytes.now i }
 {
-    for kind in kinds {
-        if kind.code == code {
-            return Some(kind.body);
-        }
-    }
-    None
+    bytes.get(i).copied().unwrap_or(0)
 }
 
 // The record at `offset`: a byte is there, its kind is known, its body is complete.
-pub fn record_at(bytes: &[u8], kinds: &[Kind], offset: usize) -> Result<Record, BytesFault>
-    ensures { result ≡ record_at bytes.now kinds.now offset }
+pub fn record_at<K: FileKind>(bytes: &[u8], offset: usize) -> Result<Record<K>, BytesFault>
+    ensures { by_code K.code result ≡ record_at bytes.now K.kinds offset }
 {
-    if offset >= bytes.len() {
+    let Some(&code) = bytes.get(offset) else {
         return Err(BytesFault::Unfinished { offset });
-    }
-    let code = bytes[offset];
-    let Some(body) = body_length(kinds, code) else {
+    };
+    let Some(kind) = K::from_code(code) else {
         return Err(BytesFault::UnknownKind { offset });
     };
+    let body = kind.body();
     if bytes.len() - offset - 1 < body {
         return Err(BytesFault::Unfinished { offset });
     }
     let end = offset + 1 + body;
-    Ok(Record { offset, code, end })
+    Ok(Record { offset, kind, end })
 }
 
 // Nothing stands from `offset` on.

@@ -44,6 +44,7 @@ impl fmt::Display for Layer {
 }
 
 // Why a call was turned away: the numbers and places are listed in docs/refusals.md.
+// The number is a number, since users see it and look it up; in code each layer has an enum of its faults.
 #[derive(Clone, Copy, PartialEq, Eq, Debug)]
 pub struct Refusal {
     pub number: u32,

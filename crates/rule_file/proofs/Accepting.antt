@@ -1,10 +1,9 @@
 -- Every file of rules in order that have places is read. Assumes nothing.
-use Rattle.std.proofs.Common.{◌≡◌, ℕ, suc, ◌+◌, ◌*◌, ◌<◌, ◌≤◌, cond, eqb, List, [], ◌∷◌, ◌++◌, map, length, get_or, drop, Some, None, Ok, Err, Option, Result, sym, refl, ap, ◌∙◌, subst, inl, inr, arith}
+use Rattle.std.proofs.Common.{◌≡◌, ℕ, suc, ◌+◌, ◌*◌, ◌<◌, ◌≤◌, cond, eqb, List, [], ◌∷◌, ◌++◌, map, length, get_or, drop, Ok, Err, Result, sym, refl, ap, ◌∙◌, subst, arith}
 use Rattle.std.specs.List.{range_with_len}
 use Rattle.std.proofs.lemmas.List.FromFn.{fill_by_all}
 use Rattle.std.proofs.lemmas.List.{append_assoc, length-append, get_or-append-add}
 use Rattle.records.specs.Damage.{Damaged}
-use Rattle.records.specs.Reading.{body_length}
 use Rattle.records.specs.declared.BytesFault.{BytesFault}
 use Rattle.records.specs.declared.BytesFault.TheVariants.{Unfinished, UnknownKind, AfterEnd}
 use Rattle.rules.specs.declared.Rule.{Rule}
@@ -20,32 +19,12 @@ use Rattle.rule_file.proofs.Records.{front_rules, same_rules, rule_same, value_b
 
 -- a rule file is damaged nowhere
 undamaged : (more : List Rule) (o : ℕ) (f : BytesFault) → Damaged rule_kinds end_code (rules_bytes more) o f → ⊥
-undamaged [] o (Unfinished p) (at, inl none) = let z : ◌≡◌ {A = ℕ} 0 1 = cc in omega arith
-undamaged [] o (Unfinished p) (at, inr (code, k, body, is, known, short)) =
-    let c : end_code ≡ code = cc in
-    let e : ◌≡◌ {A = Option ℕ} (Some 0) (Some k) = ap (body_length rule_kinds) c ∙ known in
-    let z : ◌≡◌ {A = ℕ} 0 k = cc in
-    omega arith
-undamaged [] o (UnknownKind p) (at, (code, rest, is, unknown)) =
-    let c : end_code ≡ code = cc in
-    let e : ◌≡◌ {A = Option ℕ} (Some 0) None = ap (body_length rule_kinds) c ∙ unknown in
-    let z : ◌≡◌ {A = ℕ} 0 1 = cc in
-    omega arith
-undamaged [] o (AfterEnd p) (at, (x, rest, is)) = let z : ◌≡◌ {A = ℕ} 0 1 = cc in omega arith
-undamaged (r ∷ rs) o (Unfinished p) (at, inl none) = let z : ◌≡◌ {A = ℕ} 0 1 = cc in omega arith
-undamaged (r ∷ rs) o (Unfinished p) (at, inr (code, k, body, is, known, short)) =
-    let c : rule_code ≡ code = cc in
-    let e : ◌≡◌ {A = Option ℕ} (Some 4) (Some k) = ap (body_length rule_kinds) c ∙ known in
-    let z : ◌≡◌ {A = ℕ} 4 k = cc in
-    let b : r.state ∷ (r.line ∷ (r.prefix ∷ (cond r.value 1 0 ∷ (rules_bytes rs)))) ≡ body = cc in
-    let l = ap length b in
-    omega arith
-undamaged (r ∷ rs) o (UnknownKind p) (at, (code, rest, is, unknown)) =
-    let c : rule_code ≡ code = cc in
-    let e : ◌≡◌ {A = Option ℕ} (Some 4) None = ap (body_length rule_kinds) c ∙ unknown in
-    let z : ◌≡◌ {A = ℕ} 0 1 = cc in
-    omega arith
-undamaged (r ∷ rs) o (AfterEnd p) (at, (x, rest, is)) = let z : ◌≡◌ {A = ℕ} 33 47 = cc in omega arith
+undamaged [] o (Unfinished p) damage = grind arith
+undamaged [] o (UnknownKind p) damage = grind arith
+undamaged [] o (AfterEnd p) damage = grind arith
+undamaged (r ∷ rs) o (Unfinished p) damage = grind arith
+undamaged (r ∷ rs) o (UnknownKind p) damage = grind arith
+undamaged (r ∷ rs) o (AfterEnd p) damage = grind arith
 
 module _ (b n : ℕ) (bytes : List ℕ) (list list' : List Rule) (rules : List Rule) (sizes : Limits b n) (ok : InOrder b n rules) (room : length rules ≤ length list) (is : bytes ≡ rules_bytes rules) where
   -- the first of a rule that no rule may follow, or that has no place

@@ -1,62 +1,35 @@
 -- Lists of rules in order, with one rule more. Assumes nothing.
-use Rattle.std.proofs.Common.{◌≡◌, ℕ, zero, suc, ◌+◌, ◌-◌, ◌^◌, ◌<◌, ◌≤◌, true, List, [], ◌∷◌, ◌++◌, length, get_or, Some, Decides, sym, refl, ap, ◌∙◌, subst, subst₂, inl, inr, ⊎_elim, arith}
+use Rattle.std.proofs.Common.{◌≡◌, ℕ, zero, suc, ◌+◌, ◌-◌, ◌^◌, ◌<◌, ◌≤◌, true, List, [], ◌∷◌, ◌++◌, length, get_or, Some, Decides, sym, refl, ap, ◌∙◌, subst, subst₂, ⊎_elim, arith}
 use mathlib.Core.List.Memᴰ
 use mathlib.Core.List.{Memᴰ}
 use Rattle.std.proofs.lemmas.List.{get_or_append_left, get_or_push, length-append, length_push}
-use Rattle.std.proofs.lemmas.Bool.{and_parts, and_from, or_cases, or_left, or_right, lt-ltb, ltb-true, eq-eqb, eqb-true, cases_eq, cases_lt}
+use Rattle.std.proofs.lemmas.Bool.{cases_eq, cases_lt}
+use Rattle.std.proofs.lemmas.Bool.Decides.{nat_tests, Decides-and, Decides-eqb, Decides-ltb, Decides-or}
 use Rattle.rules.specs.Fitting.{in_range}
 use Rattle.rules.specs.Listing.{Before}
 use Rattle.rules.specs.declared.Rule.{Rule}
 use Rattle.rule_file.specs.Order.{InOrder, before, last_rule, comes_after}
 
 pub before_decides : (r q : Rule) → Decides (before r q) (Before r q)
-before_decides r q = (
-  λ e. ⊎_elim
-      (λ s. inl (ltb-true r.state q.state s))
-      (λ rest.
-      let p = and_parts _ _ rest in
-      inr (
-        eqb-true r.state q.state p.0,
-        ⊎_elim
-            (λ l. inl (ltb-true r.line q.line l))
-            (λ last. let z = and_parts _ _ last in inr (eqb-true r.line q.line z.0, ltb-true r.prefix q.prefix z.1))
-            (or_cases _ _ p.1),
-      ))
-      (or_cases _ _ e),
-  λ h. ⊎_elim
-      (λ s. or_left _ _ (lt-ltb r.state q.state s))
-      (λ rest. or_right _ _ (and_from _ _ (eq-eqb r.state q.state rest.0) (⊎_elim
-      (λ l. or_left _ _ (lt-ltb r.line q.line l))
-      (λ last. or_right _ _ (and_from _ _ (eq-eqb r.line q.line last.0) (lt-ltb r.prefix q.prefix last.1)))
-      rest.1)))
-      h,
-)
+before_decides r q =
+    Decides-or _ _ (Decides-ltb r.state q.state) (Decides-and _ _ (Decides-eqb r.state q.state)
+    (Decides-or _ _ (Decides-ltb r.line q.line) (Decides-and _ _ (Decides-eqb r.line q.line) (Decides-ltb r.prefix q.prefix))))
 
 before_trans : (a b c : Rule) → Before a b → Before b c → Before a c
-before_trans a b c (inl s) (inl t) = inl (omega arith)
-before_trans a b c (inl s) (inr (e, t)) = inl (omega arith)
-before_trans a b c (inr (e, s)) (inl t) = inl (omega arith)
-before_trans a b c (inr (e, inl s)) (inr (f, inl t)) = inr (omega arith, inl (omega arith))
-before_trans a b c (inr (e, inl s)) (inr (f, inr (g, t))) = inr (omega arith, inl (omega arith))
-before_trans a b c (inr (e, inr (h, s))) (inr (f, inl t)) = inr (omega arith, inl (omega arith))
-before_trans a b c (inr (e, inr (h, s))) (inr (f, inr (g, t))) = inr (omega arith, inr (omega arith, omega arith))
+before_trans a b c first then = grind arith
 
 -- the last rule of a list that is not empty stands at its last place
 last_place : (rs : List Rule) (d : Rule) (k : ℕ) → length rs ≡ k + 1 → last_rule rs ≡ Some (get_or rs k d)
-last_place [] d k e = absurd (omega arith)
-last_place (r ∷ []) d zero e = refl
-last_place (r ∷ []) d (suc k) e = absurd (omega arith)
-last_place (r ∷ (q ∷ qs)) d zero e = absurd (omega arith)
+last_place [] d k e = grind arith
+last_place (r ∷ []) d k e = grind arith
+last_place (r ∷ (q ∷ qs)) d zero e = grind arith
 last_place (r ∷ (q ∷ qs)) d (suc k) e = last_place (q ∷ qs) d k (omega arith)
 
 last_at : (rs : List Rule) (d : Rule) → 0 < length rs → last_rule rs ≡ Some (get_or rs (length rs - 1) d)
 last_at rs d some = last_place rs d (length rs - 1) (omega arith)
 
 range_test : (b n : ℕ) (r : Rule) → Decides (in_range b n r) ((r.state < 2 ^ b) × (r.line < n) × (r.prefix < 2 ^ r.line))
-range_test b n r = (
-  λ e. let p = and_parts _ _ e in let q = and_parts _ _ p.1 in (ltb-true _ _ p.0, ltb-true _ _ q.0, ltb-true _ _ q.1),
-  λ h. and_from _ _ (lt-ltb _ _ h.0) (and_from _ _ (lt-ltb _ _ h.1) (lt-ltb _ _ h.2)),
-)
+range_test b n r = grind (arith, nat_tests)
 
 module _ (b n : ℕ) where
   pub none_in_order : InOrder b n []

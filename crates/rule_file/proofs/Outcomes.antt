@@ -3,7 +3,7 @@ use Rattle.std.proofs.Common.{◌≡◌, ℕ, ◌*◌, ◌≤◌, Bool, true, fa
 use Rattle.std.specs.List.{range_with_len}
 use Rattle.std.proofs.lemmas.List.{length-append, take_at}
 use Rattle.std.proofs.lemmas.Bool.{both_ways, cond-true, cond-false}
-use Rattle.plant.proofs.Sizes.{limits_from, limits_fit}
+use Rattle.plant.proofs.Limits.{limits_from, limits_fit}
 use Rattle.rules.specs.declared.Rule.{Rule}
 use Rattle.rule_file.specs.Encoding.{end_code, records_bytes, rules_bytes}
 use Rattle.plant.specs.Sizes.{Limits, sizes_fit}

@@ -1,6 +1,7 @@
 -- The record of a rule, as bytes and back. Assumes nothing.
-use Rattle.std.proofs.Common.{◌≡◌, ℕ, zero, suc, ◌+◌, ◌*◌, ◌≤◌, Bool, true, false, cond, eqb, leb, List, [], ◌∷◌, ◌++◌, length, get_or, drop, sym, refl, ap, ◌∙◌, arith}
+use Rattle.std.proofs.Common.{◌≡◌, ℕ, ◌+◌, ◌*◌, ◌≤◌, Bool, true, false, cond, eqb, leb, List, [], ◌∷◌, ◌++◌, length, get_or, drop, sym, refl, ap, ◌∙◌, arith}
 use Rattle.std.proofs.lemmas.List.{append-nil, length-append}
+use Rattle.std.proofs.lemmas.Bool.Decides.{nat_tests}
 use Rattle.records.proofs.Finding.{one_byte}
 use Rattle.rules.specs.declared.Rule.{Rule}
 use Rattle.rule_file.specs.Encoding.{rule_code, end_code, rule_bytes, records_bytes, rules_bytes}
@@ -16,19 +17,13 @@ value_small true = refl
 value_small false = refl
 
 pub byte_value : (k : ℕ) → k ≤ 1 → cond (eqb k 1) 1 0 ≡ k
-byte_value zero small = refl
-byte_value (suc zero) small = refl
-byte_value (suc (suc k)) small = absurd (omega arith)
+byte_value k small = grind (arith, nat_tests)
 
 value_same : (v w : Bool) → ◌≡◌ {A = ℕ} (cond v 1 0) (cond w 1 0) → v ≡ w
-value_same v w e = sym (value_byte v) ∙ ap (λ k. eqb k 1) e ∙ value_byte w
+value_same v w e = grind arith
 
 pub rule_same : (r q : Rule) → r.state ≡ q.state → r.line ≡ q.line → r.prefix ≡ q.prefix → r.value ≡ q.value → r ≡ q
-rule_same r q s j p v =
-    ap (λ x. record { state = x; line = r.line; prefix = r.prefix; value = r.value }) s ∙
-    ap (λ x. record { state = q.state; line = x; prefix = r.prefix; value = r.value }) j ∙
-    ap (λ x. record { state = q.state; line = q.line; prefix = x; value = r.value }) p ∙
-    ap (λ x. record { state = q.state; line = q.line; prefix = q.prefix; value = x }) v
+rule_same r q s j p v = grind arith
 
 -- five bytes of what is left
 pub five_bytes : (bytes : List ℕ) (at : ℕ) → at + 5 ≤ length bytes → drop at bytes ≡ get_or bytes at 0 ∷ (get_or bytes (at + 1) 0 ∷ (get_or bytes (at + 2) 0 ∷ (get_or bytes (at + 3) 0 ∷ (get_or bytes (at + 4) 0 ∷ drop (at + 5) bytes))))

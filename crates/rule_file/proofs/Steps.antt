@@ -1,12 +1,12 @@
 -- Reading a rule file, one record at a time. Assumes nothing.
-use Rattle.std.proofs.Common.{◌≡◌, ℕ, pred, ◌+◌, ◌<◌, ◌≤◌, true, false, cond, eqb, ltb, ◌⊎◌, List, [], ◌∷◌, ◌++◌, length, get_or, Some, None, Ok, Err, Result, sym, refl, ap, ◌∙◌, inl, inr, ⊎_elim, arith}
+use Rattle.std.proofs.Common.{◌≡◌, ℕ, pred, ◌+◌, ◌<◌, ◌≤◌, true, false, cond, eqb, ltb, ◌⊎◌, List, [], ◌∷◌, ◌++◌, length, get_or, Some, Ok, Err, Result, refl, ap, ◌∙◌, arith}
 use Rattle.std.proofs.lemmas.Bool.{cond-true, cond-false, eq-eqb, ne_eqb, lt-ltb, le-ltb}
-use Rattle.records.specs.Reading.{record_at, body_length}
+use Rattle.std.proofs.lemmas.Bool.Decides.{nat_tests}
+use Rattle.records.specs.Reading.{Record, body_length, record_at}
 use Rattle.records.specs.Running.{Next, over, onward, by_record}
 use Rattle.records.specs.declared.BytesFault.{BytesFault}
 use Rattle.records.specs.declared.BytesFault.TheVariants.{Unfinished, AfterEnd}
-use Rattle.records.specs.declared.Record.{Record}
-use Rattle.records.proofs.Finding.{first_or_rest, found, no_kind, none_there}
+use Rattle.records.proofs.Finding.{found, none_there}
 use Rattle.records.proofs.Running.{over_here, onward_here}
 use Rattle.rules.specs.declared.Rule.{Rule}
 use Rattle.rule_file.specs.Encoding.{rule_code, end_code, rule_kinds}
@@ -16,31 +16,26 @@ use Rattle.rule_file.specs.declared.fault.RuleFileFault.TheVariants.{Bytes, Misp
 
 -- the two kinds and the lengths of their bodies
 pub kinds_only : (code k : ℕ) → body_length rule_kinds code ≡ Some k → ((code ≡ end_code) × (k ≡ 0)) ⊎ ((code ≡ rule_code) × (k ≡ 4))
-kinds_only code k e =
-    ⊎_elim
-    (λ rule. inr rule)
-    (λ e1. ⊎_elim (λ end. inl end) (λ none. no_kind k none) (first_or_rest end_code code 0 k None e1))
-    (first_or_rest rule_code code 4 k _ e)
+kinds_only code k e = grind (arith, nat_tests)
 
 -- a record that is not the end has a rule's kind and length
 pub other_found : (bytes : List ℕ) (at : ℕ) (r : Record) → record_at bytes rule_kinds at ≡ Ok r → (r.code ≡ end_code → ⊥) → (r.code ≡ rule_code) × (r.end ≡ at + 5) × (r.end ≤ length bytes)
 other_found bytes at r is other =
     let w = found bytes rule_kinds at r is in
     let e = w.end in
-    ⊎_elim
-    (λ end. absurd (other end.0))
-    (λ rule. let k = rule.1 in (rule.0, omega arith, w.within))
-    (kinds_only r.code w.body w.known)
+    let i = w.within in
+    let k = kinds_only r.code w.body w.known in
+    grind arith
 
 -- the end record is a single byte
 pub end_found : (bytes : List ℕ) (at : ℕ) (r : Record) → record_at bytes rule_kinds at ≡ Ok r → r.code ≡ end_code → (r.end ≡ at + 1) × (r.end ≤ length bytes) × (get_or bytes at 0 ≡ end_code)
 end_found bytes at r is end =
     let w = found bytes rule_kinds at r is in
     let e = w.end in
-    ⊎_elim
-    (λ last. let k = last.1 in (omega arith, w.within, sym w.code ∙ end))
-    (λ rule. absurd (let k = rule.0 in omega arith))
-    (kinds_only r.code w.body w.known)
+    let i = w.within in
+    let first = w.code in
+    let k = kinds_only r.code w.body w.known in
+    grind arith
 
 module _ (b n room : ℕ) (bytes : List ℕ) where
   abbrev step : List Rule → ℕ → Next (List Rule) Reads

@@ -3,11 +3,10 @@ use Rattle.std.proofs.Common.{◌≡◌, ℕ, ◌+◌, ◌<◌, ◌≤◌, Bool,
 use Rattle.std.proofs.lemmas.List.{append_assoc, drop_all, flat_map_more, length-append, length_push, length-take-le, take-append-drop, take_at}
 use Rattle.std.proofs.lemmas.Bool.{and_parts, and_from, both_ways, eqb-true, eqb-false, leb-true, ltb-true, ltb-false}
 use Rattle.records.specs.Damage.{Damaged}
-use Rattle.records.specs.Reading.{record_at}
+use Rattle.records.specs.Reading.{Record, record_at}
 use Rattle.records.specs.Running.{Next, over, onward, by_record}
 use Rattle.records.specs.declared.BytesFault.{BytesFault}
 use Rattle.records.specs.declared.BytesFault.TheVariants.{Unfinished, AfterEnd}
-use Rattle.records.specs.declared.Record.{Record}
 use Rattle.records.proofs.Finding.{found, damaged, one_byte}
 use Rattle.records.proofs.Running.{run_keeps}
 use Rattle.rules.specs.Fitting.{in_range}

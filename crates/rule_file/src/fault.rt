@@ -22,6 +22,7 @@ pub enum RuleFileFault {
 
 impl RuleFileFault {
     // The fault's number, place and layer.
+    // A method and no `From`: of some faults there is no refusal, and one name asks all of them.
     pub fn refusal(&self) -> Refusal
         ensures { result ≡ rule_file_refusal self.now }
     {
@@ -41,6 +42,7 @@ impl RuleFileFault {
     }
 }
 
+// Written by hand: clauses name what `?` makes of a fault, and a derive gives no such fact.
 impl From<BytesFault> for RuleFileFault {
     ghost from_gives = { λ f r. r ≡ Bytes f };
 

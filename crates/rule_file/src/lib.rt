@@ -2,6 +2,7 @@
 #![tactic(auto)]
 
 mod fault;
+mod kind;
 mod order;
 mod reading;
 mod writing;

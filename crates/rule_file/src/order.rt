@@ -1,17 +1,10 @@
 // Whether a rule may stand where it stands in a file.
 ghost use Rattle.std.specs.Prelude.{◌≡◌, ◌+◌, ◌≤◌, length};
-ghost use Rattle.plant.specs.Meaning.{most_bits, most_lines};
 ghost use Rattle.rule_file.specs.Order.{before, comes_after};
 ghost use Rattle.rule_file.specs.Reading.{rule_at, stands_next};
 
+use plant::Sizes;
 use rules::Rule;
-
-// How many state bits and drive lines there are.
-#[derive(Clone, Copy)]
-pub(crate) struct Sizes {
-    pub(crate) state_bits: u32,
-    pub(crate) lines: u32,
-}
 
 // The rule whose record begins at `offset`.
 pub(crate) fn rule_at(bytes: &[u8], offset: usize) -> Rule
@@ -30,28 +23,22 @@ pub(crate) fn rule_at(bytes: &[u8], offset: usize) -> Rule
 fn comes_before(first: Rule, second: Rule) -> bool
     ensures { result ≡ before first second }
 {
-    first.state < second.state
-        || first.state == second.state
-            && (first.line < second.line
-                || first.line == second.line && first.prefix < second.prefix)
+    (first.state, first.line, first.prefix) < (second.state, second.line, second.prefix)
 }
 
 // Whether the rule comes after the one before it, where there is one.
 fn comes_after(last: Option<Rule>, rule: Rule) -> bool
     ensures { result ≡ comes_after last rule }
 {
-    match last {
-        Some(before) => comes_before(before, rule),
-        None => true,
-    }
+    last.is_none_or(|before| comes_before(before, rule))
 }
 
 // Whether the rule at `offset` may stand there: its value is 0 or 1, it is in range, and it comes after the one before it.
 pub(crate) fn stands_next(sizes: Sizes, last: Option<Rule>, bytes: &[u8], offset: usize) -> bool
-    requires { (sizes.state_bits ≤ most_bits) × ((sizes.lines ≤ most_lines) × (offset + 5 ≤ length bytes.now)) }
+    requires { offset + 5 ≤ length bytes.now }
     ensures { result ≡ stands_next sizes.state_bits sizes.lines last bytes.now offset }
 {
     let rule = rule_at(bytes, offset);
     bytes[offset + 4] <= 1
-        && (rule.in_range(sizes.state_bits, sizes.lines) && comes_after(last, rule))
+        && (rule.in_range(sizes.state_bits(), sizes.lines()) && comes_after(last, rule))
 }

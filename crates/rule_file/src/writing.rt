@@ -4,14 +4,29 @@ ghost use Rattle.rule_file.specs.Encoding.{rule_bytes, rules_bytes};
 ghost use Rattle.rule_file.specs.Outcome.{Written};
 
 use crate::fault::RuleFileFault;
-use crate::reading::{END, RULE, RULE_LENGTH};
+use crate::kind::RuleFileKind;
+use crate::reading::RULE_LENGTH;
 use rules::Rule;
 
 // How many bytes the file of the list has.
+#[tactic(auto, using(crate::proofs::Records::file_length))]
 fn file_length(list: &[Rule]) -> usize
     ensures { result ≡ length (rules_bytes list.now) }
 {
     RULE_LENGTH * list.len() + 1
+}
+
+// The record of the rule.
+fn rule_record(rule: &Rule) -> [u8; RULE_LENGTH]
+    ensures { result ≡ rule_bytes rule.now }
+{
+    [
+        RuleFileKind::Rule as u8,
+        rule.state,
+        rule.line,
+        rule.prefix,
+        u8::from(rule.value),
+    ]
 }
 
 // Writes the record of the rule from `at` on.
@@ -19,25 +34,20 @@ fn put_rule(file: &mut [u8], at: usize, rule: &Rule)
     requires { at + 5 ≤ length file.old }
     ensures { file.new ≡ take at file.old ++ (rule_bytes rule.now ++ drop (at + 5) file.old) }
 {
-    let record = [
-        RULE,
-        rule.state,
-        rule.line,
-        rule.prefix,
-        u8::from(rule.value),
-    ];
-    file[at..at + RULE_LENGTH].copy_from_slice(&record);
+    file[at..at + RULE_LENGTH].copy_from_slice(&rule_record(rule));
 }
 
 // Writes the file of the list to the first bytes.
+#[tactic(auto, using(crate::proofs::Records::file_length))]
 fn put_rules(file: &mut [u8], list: &[Rule])
     requires { length (rules_bytes list.now) ≤ length file.old }
     ensures { file.new ≡ rules_bytes list.now ++ drop (length (rules_bytes list.now)) file.old }
 {
+    // By places and no `chunks_exact_mut`, after which a proof knows nothing of the bytes that were written.
     for (i, rule) in list.iter().enumerate() {
         put_rule(file, RULE_LENGTH * i, rule);
     }
-    file[RULE_LENGTH * list.len()] = END;
+    file[RULE_LENGTH * list.len()] = RuleFileKind::End as u8;
 }
 
 // Writes the file of any list of rules to the first bytes lent. The file's length.

@@ -1,7 +1,7 @@
 -- The test whether a setting fits, in words. Assumes nothing.
-use Rattle.std.proofs.Common.{◌≡◌, ℕ, ◌%◌, ◌^◌, ◌<◌, Bool, true, false, not, ◌&&◌, List, [], ◌∷◌, Decides, sym, refl, ap, subst, ⊎_elim}
+use Rattle.std.proofs.Common.{◌≡◌, ℕ, ◌%◌, ◌^◌, ◌<◌, Bool, true, false, not, List, [], ◌∷◌, Decides, sym, refl, subst, ⊎_elim}
 use mathlib.Core.List.Memᴰ
-use Rattle.std.proofs.lemmas.Bool.{and_parts, and_from, and_left, not-true, not_from_true, not_from_false, lt-ltb, ltb-true, eq-eqb, eqb-true, both_ways}
+use Rattle.std.proofs.lemmas.Bool.{and_parts, and_from, not-true, not_from_false, lt-ltb, ltb-true, eq-eqb, eqb-true, both_ways}
 use Rattle.plant.specs.Bits.{bit}
 use Rattle.rules.specs.Fitting.{in_range, breaks, fits, Obeys, Fits}
 use Rattle.plant.specs.Tests.{same}
@@ -55,11 +55,3 @@ module _ (b n s a : ℕ) where
             (Memᴰ.cases_cons here),
         λ all. and_from _ _ (first.1 (all r (Memᴰ.head refl))) (rest.1 (λ q here. all q (Memᴰ.tail here))),
       )
-
-  -- a rule that is broken, with the rules after it
-  pub broken_misfits : (r : Rule) (rs : List Rule) → breaks b n r s a ≡ true → fits b n (r ∷ rs) s a ≡ false
-  broken_misfits r rs e = and_left _ (fits b n rs s a) (not_from_true _ e)
-
-  -- a rule that is not broken decides nothing
-  pub unbroken_fits : (r : Rule) (rs : List Rule) → breaks b n r s a ≡ false → fits b n (r ∷ rs) s a ≡ fits b n rs s a
-  unbroken_fits r rs e = ap (λ t. not t && fits b n rs s a) e

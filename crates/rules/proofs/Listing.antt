@@ -77,7 +77,7 @@ ascends_concat f (suc n) each between =
 abbrev rule : ℕ → ℕ → ℕ → Bool → Rule
 rule s j p v = record { state = s; line = j; prefix = p; value = v }
 
--- `rule-at` over what is open: whether with the line on, and whether with it off
+-- `rule_at` over what is open: whether with the line on, and whether with it off
 abbrev chosen : Bool → Bool → ℕ → ℕ → ℕ → List Rule
 chosen on off s j p = cond on (cond off [] (rule s j p true ∷ [])) (cond off (rule s j p false ∷ []) [])
 
@@ -150,7 +150,7 @@ module _ (n : ℕ) (rows : List ℕ) where
   way_decides s j p true = some_open_decides s j p true
   way_decides s j p false = some_open_decides s j p false
 
-  -- what `rule-at` has: a rule for this state, line and prefix that stands
+  -- what `rule_at` has: a rule for this state, line and prefix that stands
   rule_at_only : (b s j p : ℕ) → s < 2 ^ b → j < n → p < 2 ^ j → {r : Rule} → Memᴰ r (rule_at n (get_or rows s 0) s j p) → Stands b n rows r
   rule_at_only b s j p st ln pf {r} here =
       let on = some_open n (get_or rows s 0) j p true in

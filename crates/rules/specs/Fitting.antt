@@ -1,6 +1,7 @@
 -- A rule and when a setting fits. Assumes nothing.
-use Rattle.std.specs.Prelude.{◌≡◌, ℕ, ◌%◌, ◌^◌, ◌<◌, Bool, true, not, ◌&&◌, List, [], ◌∷◌, ◌==◌, nat_lt}
+use Rattle.std.specs.Prelude.{◌≡◌, ℕ, ◌%◌, ◌^◌, ◌<◌, Bool, not, ◌&&◌, List, ◌==◌, nat_lt}
 use mathlib.Core.List.{Memᴰ}
+use Rattle.std.specs.List.{list_all}
 use Rattle.plant.specs.Bits.{bit}
 use Rattle.plant.specs.Tests.{same}
 use Rattle.rules.specs.declared.Rule.{Rule}
@@ -19,8 +20,7 @@ breaks b n r s a = in_range b n r && (applies r s a && not (same (bit a r.line) 
 
 -- whether setting a breaks none of the rules in state s, where there are b state bits and n lines
 abbrev pub fits : ℕ → ℕ → List Rule → ℕ → ℕ → Bool
-fits b n [] s a = true
-fits b n (r ∷ rs) s a = not (breaks b n r s a) && fits b n rs s a
+fits b n rs s a = list_all (λ r. not (breaks b n r s a)) rs
 
 -- line j of setting a is on where bit j of a is 1: a rule in range, of state s, whose prefix a begins with, has its line in a at its value
 pub record Obeys (b n : ℕ) (s a : ℕ) (r : Rule) : Type 0 where

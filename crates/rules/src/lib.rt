@@ -1,12 +1,12 @@
 // Drive rules: what a rule is, and whether a setting fits a list of them.
 #![tactic(auto)]
 
-ghost use Rattle.std.specs.Prelude.{◌≡◌, ◌^◌, ◌<◌, ◌≤◌, Some, Decides, nat_lt};
-ghost use Rattle.plant.specs.Meaning.{most_lines, most_bits};
+ghost use Rattle.std.specs.Prelude.{◌≡◌, ◌^◌, ◌<◌, Some, Decides, nat_lt};
+ghost use Rattle.plant.specs.Meaning.{most_lines};
 ghost use Rattle.rules.specs.Shown.{rule_line};
 ghost use Rattle.rules.specs.Fitting.{in_range, applies, breaks, fits, Fits};
 
-use plant::{MAX_LINES, MAX_STATES, Plant, has_bit};
+use plant::{MAX_LINES, MAX_STATES, Plant, Sizes, has_bit};
 use std::fmt;
 
 // The most rules that there can be: one for each state, line and prefix.
@@ -28,7 +28,7 @@ impl fmt::Display for Rule {
         let state = self.state;
         let line = self.line;
         let prefix = self.prefix;
-        let value = self.value as u8;
+        let value = u8::from(self.value);
         write!(f, "state {state} line {line} prefix {prefix} value {value}")
     }
 }
@@ -42,6 +42,7 @@ fn below_power(byte: u8, k: u32) -> bool
 
 impl Rule {
     // Whether the rule is of a state, a line and a prefix that there is: one out of range binds nothing.
+    // Two numbers and no `Sizes`, which would ask the caller to have sizes within the limits.
     pub fn in_range(&self, state_bits: u32, lines: u32) -> bool
         ensures { result ≡ in_range state_bits lines self.now }
     {
@@ -59,36 +60,36 @@ impl Rule {
     }
 
     // Whether the setting breaks the rule in this state.
-    fn breaks(&self, state_bits: u32, lines: u32, state: u32, setting: u32) -> bool
-        requires { (state_bits ≤ most_bits) × (lines ≤ most_lines) }
-        ensures { result ≡ breaks state_bits lines self.now state setting }
+    fn breaks(&self, sizes: Sizes, state: u32, setting: u32) -> bool
+        ensures { result ≡ breaks sizes.state_bits sizes.lines self.now state setting }
     {
-        self.in_range(state_bits, lines)
+        self.in_range(sizes.state_bits(), sizes.lines())
             && self.applies(state, setting)
             && has_bit(setting, u32::from(self.line)) != self.value
     }
 }
 
 // Whether the setting breaks none of the rules in this state.
-fn breaks_none(state_bits: u32, lines: u32, rules: &[Rule], state: u32, setting: u32) -> bool
-    requires { (state_bits ≤ most_bits) × (lines ≤ most_lines) }
-    ensures value { result ≡ fits state_bits lines rules.now state setting }
-    ensures in_words { Decides result (Fits state_bits lines rules.now state setting) }
+fn breaks_none(sizes: Sizes, rules: &[Rule], state: u32, setting: u32) -> bool
+    ensures value { result ≡ fits sizes.state_bits sizes.lines rules.now state setting }
+    ensures in_words { Decides result (Fits sizes.state_bits sizes.lines rules.now state setting) }
 {
-    for rule in rules {
-        if rule.breaks(state_bits, lines, state, setting) {
-            return false;
-        }
-    }
-    true
+    rules.iter().all(|rule| !rule.breaks(sizes, state, setting))
 }
 
-// Whether the setting fits: it breaks none of the rules in this state.
-pub fn fits<P: Plant>(plant: &P, rules: &[Rule], state: u32, setting: u32) -> bool
-    ensures value { result ≡ fits (P.meaning plant.now).bits (P.meaning plant.now).lines rules.now state setting }
-    ensures in_words { Decides result (Fits (P.meaning plant.now).bits (P.meaning plant.now).lines rules.now state setting) }
-{
-    let state_bits = plant.state_bits();
-    let lines = plant.lines();
-    breaks_none(state_bits, lines, rules, state, setting)
+// A plant, and drive rules that are to hold on it.
+#[derive(Drop)]
+pub struct RuledPlant<'a, P> {
+    pub plant: &'a P,
+    pub rules: &'a [Rule],
+}
+
+impl<P: Plant> RuledPlant<'_, P> {
+    // Whether the setting fits: it breaks none of the rules in this state.
+    pub fn fits(&self, state: u32, setting: u32) -> bool
+        ensures value { result ≡ fits (P.meaning self.now.plant.now).bits (P.meaning self.now.plant.now).lines self.now.rules.now state setting }
+        ensures in_words { Decides result (Fits (P.meaning self.now.plant.now).bits (P.meaning self.now.plant.now).lines self.now.rules.now state setting) }
+    {
+        breaks_none(self.plant.sizes(), self.rules, state, setting)
+    }
 }

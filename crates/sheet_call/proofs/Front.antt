@@ -5,7 +5,7 @@ use Rattle.std.proofs.lemmas.Bool.{cases_lt, cond_both, cond-false, cond-true, l
 use Rattle.records.specs.Reading.{body_length, record_at, whole_record}
 use Rattle.records.specs.declared.BytesFault.{BytesFault}
 use Rattle.records.specs.declared.BytesFault.TheVariants.{UnknownKind}
-use Rattle.records.specs.declared.Record.{Record}
+use Rattle.records.specs.Reading.{Record}
 use Rattle.plan.specs.Items.{byte, mask_at, condition_at, clause_at, item_fits}
 use Rattle.plan.specs.Judging.{Seen, plan_kinds, most_clauses, kept, judge_record, go_on, judge_found, judge_from, judge_head, judge, none_yet}
 use Rattle.plan.specs.Machine.{Parts}

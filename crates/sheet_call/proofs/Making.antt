@@ -1,20 +1,22 @@
 -- A draft that keeps its promises makes what is computed. Assumes nothing.
-use Rattle.std.proofs.Common.{◌≡◌, ℕ, zero, suc, ◌<◌, ◌≤◌, Bool, true, false, cond, ◌&&◌, eqb, ◌⊎◌, List, [], ◌++◌, length, get_or, take, drop, IfOk as made, Some, None, Ok, Err, Decides, Result, sym, refl, ap, ◌∙◌, subst, subst₂, inl, inr, ⊎_elim, arith}
-use Rattle.std.proofs.lemmas.List.{length-append, length-take-le, take_at}
-use Rattle.std.proofs.lemmas.Bool.{and_parts, and_from, both_ways, cases_eq, eqb-true, eq-eqb}
+use Rattle.std.proofs.Common.{◌≡◌, ℕ, ◌<◌, ◌≤◌, ◌≢◌, Bool, true, false, ◌&&◌, eqb, ◌⊎◌, List, [], ◌++◌, length, get_or, take, drop, IfOk as made, Some, None, Ok, Err, Decides, Option, Result, sym, refl, ap, ◌∙◌, subst, subst₂, inl, inr, ⊎_elim, arith}
+use Rattle.std.specs.Option.{MatchOption}
+use Rattle.std.specs.Array.{IsFirstChunk, IsWholeChunk}
+use Rattle.std.proofs.lemmas.List.{append_assoc, drop-append-le, length-append, length-take-le, take-append-drop, take-append-le, take_at}
+use Rattle.std.proofs.lemmas.Bool.{and_parts, and_from, both_ways, cases_lt, eqb-true, eq-eqb}
 use Rattle.plant.specs.Meaning.{Meaning, Within, states, settings}
 use Rattle.plant.specs.Lasting.{Open}
 use Rattle.plant.proofs.Assignments.{largest_open}
 use Rattle.plant.proofs.Bits.{bit_beyond}
 use Rattle.plant.proofs.Bounded.{decides_itself, false_when_not}
+use Rattle.plant.proofs.Firsts.{first_below}
 use Rattle.plant.specs.Bits.{bit}
 use Rattle.rules.specs.Listing.{rules_of}
 use Rattle.rules.specs.declared.Rule.{Rule}
 use Rattle.draft.specs.Outcome.{Filled, WentThrough, TurnedAway}
-use Rattle.draft.proofs.Places.{few_places}
 use Rattle.draft.specs.Rows.{open_in}
 use Rattle.draft.specs.Starts.{Lost}
-use Rattle.draft.specs.Writing.{Wrote}
+use Rattle.filling.specs.Writing.{Wrote}
 use Rattle.draft.specs.declared.fault.DraftFault.{DraftFault}
 use Rattle.draft.specs.declared.fault.DraftFault.TheVariants.{LostStart, RowCount as DraftRowCount, RulePlaces as DraftRulePlaces}
 use Rattle.draft.proofs.Largest.{rows_size}
@@ -27,8 +29,8 @@ use Rattle.plan.specs.Sound.{plan_within}
 use Rattle.plan.specs.declared.fault.PlanFault.{PlanFault}
 use Rattle.plan.specs.declared.fault.PlanFault.TheVariants.{Bytes, HeadMisplaced, SizeLimits, TooManyClauses, Malformed, Loop, Clash, Memory}
 use Rattle.sheet_call.specs.Faults.{sheet_refusal}
-use Rattle.sheet_call.specs.Making.{refused, text_of_refusal, or_else, lowest, lost_start, drafted, with_rows, sheet_of_plan, sheet_of}
-use Rattle.sheet_call.specs.Outcome.{Lent, lent, onto, written, answered, NoMemory, ShowsOpen, DraftedSheet, AsComputed, SheetCall}
+use Rattle.sheet_call.specs.Making.{refused, text_of_refusal, lost_start, drafted, with_rows, sheet_of_plan, sheet_of}
+use Rattle.sheet_call.specs.Outcome.{Lent, lent, onto, written, answered, NoMemory, ShowsOpen, DraftedSheet, AsComputed, MadeOrNot, SheetCall}
 use Rattle.sheet_call.specs.Page.{sheet_text, digit, digit_place}
 use Rattle.sheet_call.proofs.Front.{front_decides}
 use Rattle.sheet_call.proofs.Lengths.{digit_there}
@@ -38,40 +40,43 @@ use Rattle.sheet_call.specs.declared.Sheet.{Sheet}
 use Rattle.sheet_call.specs.declared.fault.SheetFault.{SheetFault}
 use Rattle.sheet_call.specs.declared.fault.SheetFault.TheVariants.{TextLength, RowCount, RulePlaces, Plan, Draft}
 
-lowest_none : (p : ℕ → Bool) (n : ℕ) → ((k : ℕ) → k < n → p k ≡ false) → lowest p n ≡ None
-lowest_none p zero none = refl
-lowest_none p (suc n) none =
-    ap (λ o. or_else o (cond (p n) (Some n) None)) (lowest_none p n (λ k lt. none k (omega arith))) ∙ ap (λ b. cond b (Some n) None) (none n (omega arith))
+-- r is the first number below n that passes, if any does
+abbrev First : (ℕ → Bool) → ℕ → Option ℕ → Type 0
+First p n r = MatchOption r ((k : ℕ) → k < n → p k ≡ false) (λ i. (i < n) × (p i ≡ true) × ((k : ℕ) → k < i → p k ≡ false))
 
-lowest_some : (p : ℕ → Bool) (n t : ℕ) → t < n → p t ≡ true → ((k : ℕ) → k < t → p k ≡ false) → lowest p n ≡ Some t
-lowest_some p zero t lt here before = absurd (omega arith)
-lowest_some p (suc n) t lt here before =
-    ⊎_elim
-    (λ is.
-    ap (λ o. or_else o (cond (p n) (Some n) None)) (lowest_none p n (λ k l. before k (omega arith)))
-    ∙ ap (λ b. cond b (Some n) None) (ap p (sym is) ∙ here)
-    ∙ ap (λ k. Some k) (sym is))
-    (λ ne. ap (λ o. or_else o (cond (p n) (Some n) None)) (lowest_some p n t (omega arith) here before))
-    (cases_eq t n)
+found_none : (p : ℕ → Bool) (n : ℕ) → ((k : ℕ) → k < n → p k ≡ false) → (r : Option ℕ) → First p n r → r ≡ None
+found_none p n none None h = refl
+found_none p n none (Some i) h = absurd (both_ways (p i) (none i h.0) h.1)
+
+found_some : (p : ℕ → Bool) (n t : ℕ) → t < n → p t ≡ true → ((k : ℕ) → k < t → p k ≡ false) → (r : Option ℕ) → First p n r → r ≡ Some t
+found_some p n t lt here before None h = absurd (both_ways (p t) (h t lt) here)
+found_some p n t lt here before (Some i) h =
+    ⊎_elim (λ below. absurd (both_ways (p i) (before i below) h.1))
+    (λ from. ⊎_elim (λ above. absurd (both_ways (p t) (h.2 t above) here)) (λ past. let is : i ≡ t = omega arith in ap (λ k. Some k) is) (cases_lt t i))
+    (cases_lt i t)
 
 -- where every start has an open setting, none is lost
 none_lost : (m : Meaning) (rows : List ℕ) → ((t : ℕ) → m.start t ≡ true → (a : ℕ) × (open_in rows t a ≡ true)) → lost_start m rows ≡ None
 none_lost m rows starts =
-    lowest_none (λ t. m.start t && eqb (get_or rows t 0) 0) (states m)
+    let lost : ℕ → Bool = λ t. m.start t && eqb (get_or rows t 0) 0 in
+    found_none lost (states m)
     (λ k lt.
-    false_when_not (m.start k && eqb (get_or rows k 0) 0) (decides_itself _)
+    false_when_not (lost k) (decides_itself _)
     (λ e.
     let parts = and_parts (m.start k) (eqb (get_or rows k 0) 0) e in
     let w = starts k parts.0 in
     both_ways (bit 0 w.0) (bit_beyond 0 0 w.0 (omega arith) (omega arith)) (subst (λ x. bit x w.0 ≡ true) (eqb-true _ _ parts.1) w.1)))
+    (lost_start m rows) (first_below lost (states m))
 
 one_lost : (m : Meaning) → Within m → (rows : List ℕ) (t : ℕ) → Lost m rows t → lost_start m rows ≡ Some t
 one_lost m within rows t lost =
-    lowest_some (λ k. m.start k && eqb (get_or rows k 0) 0) (states m) t (within.start_state t lost.start)
+    let test : ℕ → Bool = λ k. m.start k && eqb (get_or rows k 0) 0 in
+    found_some test (states m) t (within.start_state t lost.start)
     (and_from (m.start t) _ lost.start (eq-eqb _ _ lost.empty))
     (λ k lt.
-    false_when_not (m.start k && eqb (get_or rows k 0) 0) (decides_itself _)
+    false_when_not (test k) (decides_itself _)
     (λ e. let parts = and_parts (m.start k) (eqb (get_or rows k 0) 0) e in lost.lowest k lt parts.0 (eqb-true _ _ parts.1)))
+    (lost_start m rows) (first_below test (states m))
 
 -- a fault of reading is the one that is computed, or memory was wanting
 fails_cases : {Y : Type 0} (expected : Result Y PlanFault) (f : PlanFault) → Fails expected f → (f ≡ Memory) ⊎ (expected ≡ Err f)
@@ -237,22 +242,72 @@ module _ (bytes text rows : List ℕ) (rules : List Rule) where
       inr (lost_computed text' rows' rules' len t tried.0 (subst (λ xs. Wrote xs text' 0 len (text_of_refusal (sheet_refusal (Draft (LostStart t))))) tried.1 w))
 
 -- the text is within the bytes lent
-pub lines_within : (bytes : List ℕ) (before after : Lent) (r : Sheet) → LinesWritten bytes before after r → r.length ≤ length after.text
-lines_within bytes before after r w = wrote_within w.text
+pub lines_within : (bytes : List ℕ) (lent_before lent_after : Lent) (r : Sheet) → LinesWritten bytes lent_before lent_after r → r.length ≤ length lent_after.text
+lines_within bytes lent_before lent_after r w = wrote_within w.text
 
--- the number of rules is within the places lent
-pub rules_counted : (bytes : List ℕ) (before after : Lent) (r : Sheet) → LinesWritten bytes before after r → (k : ℕ) → rules_needed ≤ k → made r.rules (λ n. n ≤ k)
-rules_counted bytes before after r w k room =
-    let few = w.plan.first_rows.promised.few in
-    let places = few_places (plan_meaning w.plan.parts) (plan_within w.plan.parts w.plan.admitted.well_formed.sizes) in
-    let enough : w.count ≤ k = omega arith in
-    subst (λ x. made x (λ n. n ≤ k)) (sym w.answer) enough
+-- what is made in the first part of a text is made in the whole of it
+pub made_in_part : (bytes text text' rest rows rows' : List ℕ) (rules rules' : List Rule) (r : Sheet) → r.length ≤ length text → length text' ≡ length text → MadeOrNot bytes (lent text rows rules) (lent text' rows' rules') r → MadeOrNot bytes (lent (text ++ rest) rows rules) (lent (text' ++ rest) rows' rules') r
+made_in_part bytes text text' rest rows rows' rules rules' r fits same here =
+    ⊎_elim
+    (λ none. inl (none.0, (ap (λ x. lent (x.text ++ rest) x.rows x.rules) none.1.0, none.1.1)))
+    (λ all.
+    let made = sheet_of bytes in
+    let size : r.length ≡ length made.text = ap (λ x. x.length) all.answer in
+    let more : text' ++ rest ≡ onto made.text (text ++ rest) =
+    ap (λ x. x.text ++ rest) all.memory ∙ append_assoc made.text (drop (length made.text) text) rest
+    ∙ ap (λ xs. made.text ++ xs) (sym (drop-append-le (length made.text) text rest (omega arith))) in
+    inr (record {
+      memory = ap (λ x. lent (text' ++ rest) x.rows x.rules) all.memory ∙ ap (λ x. lent x (onto made.rows rows) (onto made.rules rules)) more;
+      answer = all.answer;
+      first_bytes = all.first_bytes;
+      plan = λ p e.
+          let w = all.plan p e in (
+            w.0,
+            record {
+              draft = w.1.draft;
+              answer = w.1.answer;
+              promised = w.1.promised;
+              shown = λ n ok. subst (ShowsOpen (plan_meaning p)) (sym (take-append-le r.length text' rest (omega arith))) (w.1.shown n ok);
+            },
+          );
+    }))
+    here
 
--- memory of the right lengths
-pub in_room : (bytes : List ℕ) (before after : Lent) (r : Sheet) → text_needed ≤ length before.text → length before.rows ≡ rows_needed → length before.rules ≡ rules_needed → NoMemory bytes before after r ⊎ AsComputed bytes before after r → SheetCall bytes before after r
-in_room bytes before after r long rows rules made = record {
-  short_text = λ short. absurd (omega arith);
-  wrong_rows = λ l no. absurd (no rows);
-  wrong_places = λ l e no. absurd (no rules);
-  made = λ l e g. made;
-}
+-- the first part of a text and the rest are the text
+whole : {X : Type 0} {xs part : List X} {n : ℕ} → IsFirstChunk xs part n → part ++ drop n xs ≡ xs
+whole {X} {xs} {part} {n} first = ap (λ ys. ys ++ drop n xs) first.same ∙ take-append-drop n xs
+
+module _ (bytes text part rows : List ℕ) (rules : List Rule) (first : IsFirstChunk text part text_needed) where
+  -- another number of rows is lent
+  pub rows_refused : (r : Sheet) → (length rows ≢ rows_needed) → r ≡ record { length = 0; rules = Err (RowCount rows_needed) } → SheetCall bytes (lent text rows rules) (lent (part ++ drop text_needed text) rows rules) r
+  rows_refused r wrong is = record {
+    short_text = λ short. absurd (let long = first.enough in omega arith);
+    wrong_rows = λ long no. (ap (λ xs. lent xs rows rules) (whole first), is);
+    wrong_places = λ long right no. absurd (wrong right);
+    made = λ long right places. absurd (wrong right);
+  }
+
+  -- another number of places for rules is lent
+  pub places_refused : (rows' : List ℕ) (r : Sheet) → IsWholeChunk rows rows' rows_needed → (length rules ≢ rules_needed) → r ≡ record { length = 0; rules = Err (RulePlaces rules_needed) } → SheetCall bytes (lent text rows rules) (lent (part ++ drop text_needed text) rows' rules) r
+  places_refused rows' r right wrong is = record {
+    short_text = λ short. absurd (let long = first.enough in omega arith);
+    wrong_rows = λ long no. absurd (no right.long);
+    wrong_places = λ long e no. (ap (λ xs. lent xs rows' rules) (whole first) ∙ ap (λ xs. lent text xs rules) right.same, is);
+    made = λ long e places. absurd (wrong places);
+  }
+
+  -- memory of the right lengths
+  pub room_right : (part' first_rows rows' : List ℕ) (first_rules rules' : List Rule) (r : Sheet) → IsWholeChunk rows first_rows rows_needed → IsWholeChunk rules first_rules rules_needed → r.length ≤ length part' → length part' ≡ text_needed →
+      MadeOrNot bytes (lent part first_rows first_rules) (lent part' rows' rules') r → SheetCall bytes (lent text rows rules) (lent (part' ++ drop text_needed text) rows' rules') r
+  room_right part' first_rows rows' first_rules rules' r right places within size made =
+      let long = first.enough in
+      let same : length part ≡ text_needed = ap length first.same ∙ length-take-le text_needed text first.enough in
+      record {
+        short_text = λ short. absurd (omega arith);
+        wrong_rows = λ l no. absurd (no right.long);
+        wrong_places = λ l e no. absurd (no places.long);
+        made = λ l e g.
+            subst (λ before. MadeOrNot bytes before (lent (part' ++ drop text_needed text) rows' rules') r)
+            (lent_same (whole first) right.same places.same)
+            (made_in_part bytes part part' (drop text_needed text) first_rows rows' first_rules rules' r (omega arith) (omega arith) made);
+      }

@@ -1,5 +1,6 @@
 -- What a sheet call makes of the bytes of a plan, as a function that computes. Assumes nothing.
-use Rattle.std.specs.Prelude.{ℕ, zero, suc, Bool, cond, ◌&&◌, List, [], length, Some, None, Ok, Err, Option, Result, ◌==◌, slice_index}
+use Rattle.std.specs.Prelude.{ℕ, ◌&&◌, List, [], length, Some, None, Ok, Err, Option, Result, ◌==◌, slice_index}
+use Rattle.std.specs.List.{find, range_with_len}
 use Rattle.plant.specs.Meaning.{Meaning, states, settings}
 use Rattle.refusal.specs.declared.Refusal.{Refusal}
 use Rattle.rules.specs.Listing.{rules_of}
@@ -30,19 +31,9 @@ text_of_refusal (Some r) = refusal_text r
 abbrev pub refused : List ℕ → SheetFault → Made
 refused rows f = record { text = text_of_refusal (sheet_refusal f); rows = rows; rules = []; answer = Err f }
 
--- the first of two answers that is there
-abbrev pub or_else : Option ℕ → Option ℕ → Option ℕ
-or_else (Some k) later = Some k
-or_else None later = later
-
--- the lowest number below the bound of which the test holds
-abbrev pub lowest : (ℕ → Bool) → ℕ → Option ℕ
-lowest p zero = None
-lowest p (suc n) = or_else (lowest p n) (cond (p n) (Some n) None)
-
 -- the lowest start whose row is empty
 abbrev pub lost_start : Meaning → List ℕ → Option ℕ
-lost_start m rows = lowest (λ t. m.start t && slice_index rows t == 0) (states m)
+lost_start m rows = find (λ t. m.start t && slice_index rows t == 0) (range_with_len 0 (states m))
 
 -- the sheet and the rules of the rows, unless a start is lost
 abbrev pub drafted : Meaning → List ℕ → Option ℕ → Made

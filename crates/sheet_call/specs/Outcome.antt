@@ -73,9 +73,13 @@ pub record AsComputed (bytes : List ℕ) (before after : Lent) (r : Sheet) : Typ
   pub first_bytes : sheet_of (take input_needed bytes) ≡ sheet_of bytes
   pub plan : (p : Parts) → judge bytes ≡ Ok p → Admitted p × DraftedSheet (plan_meaning p) before after r
 
+-- either there was no memory for the plan, or all is as computed
+abbrev pub MadeOrNot : List ℕ → Lent → Lent → Sheet → Type 0
+MadeOrNot bytes before after r = NoMemory bytes before after r ⊎ AsComputed bytes before after r
+
 -- the memory is tested first: the text, the rows, the places for rules (11); then either there was no memory for the plan, or all is as computed
 pub record SheetCall (bytes : List ℕ) (before after : Lent) (r : Sheet) : Type 0 where
   pub short_text : length before.text < text_needed → LeftAlone (TextLength text_needed) before after r
   pub wrong_rows : text_needed ≤ length before.text → (length before.rows ≢ rows_needed) → LeftAlone (RowCount rows_needed) before after r
   pub wrong_places : text_needed ≤ length before.text → length before.rows ≡ rows_needed → (length before.rules ≢ rules_needed) → LeftAlone (RulePlaces rules_needed) before after r
-  pub made : text_needed ≤ length before.text → length before.rows ≡ rows_needed → length before.rules ≡ rules_needed → NoMemory bytes before after r ⊎ AsComputed bytes before after r
+  pub made : text_needed ≤ length before.text → length before.rows ≡ rows_needed → length before.rules ≡ rules_needed → MadeOrNot bytes before after r

@@ -1,10 +1,10 @@
 -- What the steps of a sheet call do, where the memory lent has the right lengths. Assumes nothing.
-use Rattle.std.specs.Prelude.{◌≡◌, ℕ, ◌<◌, ◌≤◌, List, ◌++◌, take, drop, Ok, Err, Result, ◌≢◌}
+use Rattle.std.specs.Prelude.{◌≡◌, ℕ, List, ◌++◌, take, drop, Ok, Err, Result}
 use Rattle.plant.specs.Meaning.{Meaning, states, settings}
 use Rattle.rules.specs.declared.Rule.{Rule}
 use Rattle.draft.specs.Outcome.{Answered}
 use Rattle.draft.specs.Rows.{open_in}
-use Rattle.draft.specs.Writing.{Wrote}
+use Rattle.filling.specs.Writing.{Wrote}
 use Rattle.draft.specs.declared.fault.DraftFault.{DraftFault}
 use Rattle.plan.specs.Admitted.{Admitted}
 use Rattle.plan.specs.Judging.{judge}
@@ -13,19 +13,9 @@ use Rattle.plan.specs.Machine.{Parts, plan_meaning}
 use Rattle.plan.specs.Refused.{Stores}
 use Rattle.sheet_call.specs.Outcome.{Lent}
 use Rattle.sheet_call.specs.Page.{sheet_text}
-use Rattle.sheet_call.specs.Room.{text_needed, rows_needed, rules_needed}
 use Rattle.sheet_call.specs.declared.Sheet.{Sheet}
 use Rattle.sheet_call.specs.declared.fault.SheetFault.{SheetFault}
 use Rattle.sheet_call.specs.declared.fault.SheetFault.TheVariants.{TextLength, RowCount, RulePlaces, Plan, Draft}
-
--- the text is long enough, the rows and the places for rules are as many as needed; else the first of the three that does not hold
-abbrev pub Room : ℕ → ℕ → ℕ → Result (Unit {0}) SheetFault → Type 0
-Room text rows rules (Ok _) = (text_needed ≤ text) × (rows ≡ rows_needed) × (rules ≡ rules_needed)
-Room text rows rules (Err (TextLength needed)) = (text < text_needed) × (needed ≡ text_needed)
-Room text rows rules (Err (RowCount needed)) = (text_needed ≤ text) × (rows ≢ rows_needed) × (needed ≡ rows_needed)
-Room text rows rules (Err (RulePlaces needed)) = (text_needed ≤ text) × (rows ≡ rows_needed) × (rules ≢ rules_needed) × (needed ≡ rules_needed)
-Room text rows rules (Err (Plan f)) = ⊥
-Room text rows rules (Err (Draft f)) = ⊥
 
 -- the draft into the first rows; the other rows are as before
 pub record FirstRows (m : Meaning) (rows rows' : List ℕ) (rules rules' : List Rule) (r : Result ℕ DraftFault) : Type 0 where

@@ -23,13 +23,14 @@ pub enum SheetFault {
 
 impl SheetFault {
     // The fault's number, place and layer; want of memory has none.
+    // A method and no `From`: of some faults there is no refusal, and one name asks all of them.
     pub fn refusal(&self) -> Option<Refusal>
         ensures { result ≡ sheet_refusal self.now }
     {
         let needed = match self {
-            SheetFault::TextLength { needed } => *needed,
-            SheetFault::RowCount { needed } => *needed,
-            SheetFault::RulePlaces { needed } => *needed,
+            SheetFault::TextLength { needed }
+            | SheetFault::RowCount { needed }
+            | SheetFault::RulePlaces { needed } => *needed,
             SheetFault::Plan(fault) => return fault.refusal(),
             SheetFault::Draft(fault) => return Some(fault.refusal()),
         };
@@ -41,6 +42,7 @@ impl SheetFault {
     }
 }
 
+// By hand: `from_gives` lets a clause name the fault that `?` makes, and a derive states no such fact.
 impl From<PlanFault> for SheetFault {
     ghost from_gives = { λ f r. r ≡ Plan f };
 
@@ -49,6 +51,7 @@ impl From<PlanFault> for SheetFault {
     }
 }
 
+// By hand, as above.
 impl From<DraftFault> for SheetFault {
     ghost from_gives = { λ f r. r ≡ Draft f };
 

@@ -1,20 +1,17 @@
 // The sheet: from the bytes of a plan to a line for each state that says which settings are open.
 #![tactic(auto)]
 
-ghost use Rattle.std.specs.Prelude.{◌≡◌, ◌≤◌, length, IfOk};
-ghost use Rattle.plant.specs.Meaning.{states};
-ghost use Rattle.draft.specs.Rows.{places_needed};
-ghost use Rattle.draft.specs.Writing.{Wrote};
+ghost use Rattle.std.specs.Prelude.{◌≡◌, ◌≤◌, length, Err, IfOk};
+ghost use Rattle.filling.specs.Writing.{Wrote};
 ghost use Rattle.sheet_call.specs.Faults.{sheet_refusal};
 ghost use Rattle.sheet_call.specs.Making.{text_of_refusal};
 ghost use Rattle.sheet_call.specs.Outcome.{SheetCall, lent};
-ghost use Rattle.sheet_call.specs.Room.{text_needed, rows_needed, rules_needed};
-ghost use Rattle.sheet_call.specs.Steps.{Room, FirstRows, Tried};
+ghost use Rattle.sheet_call.specs.Room.{text_needed};
+ghost use Rattle.sheet_call.specs.Steps.{FirstRows, Tried};
 
 mod fault;
 mod page;
 mod room;
-mod text;
 
 use draft::{DraftFault, draft};
 pub use fault::SheetFault;
@@ -32,33 +29,12 @@ pub struct Sheet {
     pub rules: Result<usize, SheetFault>,
 }
 
-// Whether the memory lent has the right lengths: the text, then the rows, then the places for rules.
-fn check_room(text: usize, rows: usize, rules: usize) -> Result<(), SheetFault>
-    ensures { Room text rows rules result }
-{
-    if text < TEXT_LENGTH {
-        return Err(SheetFault::TextLength {
-            needed: TEXT_LENGTH,
-        });
-    }
-    if rows != ROW_COUNT {
-        return Err(SheetFault::RowCount { needed: ROW_COUNT });
-    }
-    if rules != RULE_PLACES {
-        return Err(SheetFault::RulePlaces {
-            needed: RULE_PLACES,
-        });
-    }
-    Ok(())
-}
-
 // Drafts into the first rows, one for each state.
 fn draft_first<P: Plant>(
     plant: &P,
-    rows: &mut [Row],
-    rules: &mut [Rule],
+    rows: &mut [Row; ROW_COUNT],
+    rules: &mut [Rule; RULE_PLACES],
 ) -> Result<usize, DraftFault>
-    requires { (states (P.meaning plant.now) ≤ length rows.old) × (places_needed (P.meaning plant.now) ≤ length rules.old) }
     ensures { FirstRows (P.meaning plant.now) rows.old rows.new rules.old rules.new result }
 {
     draft(plant, &mut rows[0..plant.states() as usize], rules)
@@ -68,12 +44,12 @@ fn draft_first<P: Plant>(
 fn try_sheet(
     heap: Global,
     bytes: &[u8],
-    text: &mut [u8],
-    rows: &mut [Row],
-    rules: &mut [Rule],
+    text: &mut [u8; TEXT_LENGTH],
+    rows: &mut [Row; ROW_COUNT],
+    rules: &mut [Rule; RULE_PLACES],
 ) -> Result<Sheet, SheetFault>
-    requires { (text_needed ≤ length text.old) × ((length rows.old ≡ rows_needed) × (length rules.old ≡ rules_needed)) }
-    ensures { Tried bytes.now (lent text.old rows.old rules.old) (lent text.new rows.new rules.new) result }
+    ensures tried { Tried bytes.now (lent text.old rows.old rules.old) (lent text.new rows.new rules.new) result }
+    ensures size { length text.new ≡ text_needed }
 {
     let plan = Plan::read(heap, bytes)?;
     let count = draft_first(&plan, rows, rules)?;
@@ -85,9 +61,9 @@ fn try_sheet(
 }
 
 // Writes the line of the refusal. The length of the text: nothing for a fault without a number.
-fn write_refusal(text: &mut [u8], fault: SheetFault) -> usize
-    requires { text_needed ≤ length text.old }
-    ensures { Wrote text.old text.new 0 result (text_of_refusal (sheet_refusal fault)) }
+fn write_refusal(text: &mut [u8; TEXT_LENGTH], fault: SheetFault) -> usize
+    ensures wrote { Wrote text.old text.new 0 result (text_of_refusal (sheet_refusal fault)) }
+    ensures size { length text.new ≡ text_needed }
 {
     match fault.refusal() {
         Some(refusal) => put_refusal(text, refusal),
@@ -95,25 +71,13 @@ fn write_refusal(text: &mut [u8], fault: SheetFault) -> usize
     }
 }
 
-// Makes the sheet in memory of the right lengths.
-fn make_in_room(
-    heap: Global,
-    bytes: &[u8],
-    text: &mut [u8],
-    rows: &mut [Row],
-    rules: &mut [Rule],
-) -> Sheet
-    requires { (text_needed ≤ length text.old) × ((length rows.old ≡ rows_needed) × (length rules.old ≡ rules_needed)) }
-    ensures outcome { SheetCall bytes.now (lent text.old rows.old rules.old) (lent text.new rows.new rules.new) result }
-    ensures within { result.length ≤ length text.new }
-    ensures counted { IfOk result.rules (λ n. n ≤ length rules.new) }
+// No sheet: nothing is written.
+fn unmade(fault: SheetFault) -> Sheet
+    ensures { result ≡ record { length = 0; rules = Err fault } }
 {
-    match try_sheet(heap, bytes, text, rows, rules) {
-        Ok(sheet) => sheet,
-        Err(fault) => Sheet {
-            length: write_refusal(text, fault),
-            rules: Err(fault),
-        },
+    Sheet {
+        length: 0,
+        rules: Err(fault),
     }
 }
 
@@ -129,10 +93,23 @@ pub fn make_sheet(
     ensures within { result.length ≤ length text.new }
     ensures counted { IfOk result.rules (λ n. n ≤ length rules.new) }
 {
-    match check_room(text.len(), rows.len(), rules.len()) {
-        Ok(()) => make_in_room(heap, bytes, text, rows, rules),
+    let Some(text) = text.first_chunk_mut() else {
+        return unmade(SheetFault::TextLength {
+            needed: TEXT_LENGTH,
+        });
+    };
+    let Some(rows) = rows.as_mut_array() else {
+        return unmade(SheetFault::RowCount { needed: ROW_COUNT });
+    };
+    let Some(rules) = rules.as_mut_array() else {
+        return unmade(SheetFault::RulePlaces {
+            needed: RULE_PLACES,
+        });
+    };
+    match try_sheet(heap, bytes, text, rows, rules) {
+        Ok(sheet) => sheet,
         Err(fault) => Sheet {
-            length: 0,
+            length: write_refusal(text, fault),
             rules: Err(fault),
         },
     }

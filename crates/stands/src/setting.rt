@@ -10,17 +10,7 @@ ghost use Rattle.stands.specs.Sessions.{for_setting, for_sighting, AsRead, Sessi
 use crate::stand::{AwaitsSetting, AwaitsSighting, NotTaken};
 use plant::Plant;
 use reader::{LogFault, Phase, begun, driven};
-use rules::Rule;
-
-// The first stand, where `state` is a start.
-fn first_stand<P: Plant>(plant: &P, state: u32) -> Result<AwaitsSetting, LogFault>
-    ensures value { result ≡ first_stand (P.meaning plant.now) state }
-    ensures sessions { (rs : List DriveRule) → Sessions (P.meaning plant.now) rs }
-    ensures lawful { (rs : List DriveRule) → Faithful (P.meaning plant.now) rs → LawfulSessions (P.meaning plant.now) rs }
-{
-    begun(plant, state)?;
-    Ok(AwaitsSetting { state })
-}
+use rules::RuledPlant;
 
 impl AwaitsSetting {
     // A session begins: taken when `state` is a start.
@@ -29,7 +19,7 @@ impl AwaitsSetting {
         ensures sessions { (rs : List DriveRule) → Sessions (P.meaning plant.now) rs }
         ensures lawful { (rs : List DriveRule) → Faithful (P.meaning plant.now) rs → LawfulSessions (P.meaning plant.now) rs }
     {
-        first_stand(plant, state)
+        begun(plant, state).map(|_| AwaitsSetting { state })
     }
 
     // Where the session stands.
@@ -43,14 +33,13 @@ impl AwaitsSetting {
     // The setting is made: taken when it fits here.
     pub fn set<P: Plant>(
         self,
-        plant: &P,
-        rules: &[Rule],
+        ruled: &RuledPlant<'_, P>,
         setting: u32,
     ) -> Result<AwaitsSighting, NotTaken<AwaitsSetting>>
-        ensures value { result ≡ set_stand (P.meaning plant.now) rules.now self setting }
-        ensures as_read { AsRead for_setting for_sighting (P.meaning plant.now) rules.now (Poised self.state) (Set setting) result }
+        ensures value { result ≡ set_stand (P.meaning ruled.now.plant.now) ruled.now.rules.now self setting }
+        ensures as_read { AsRead for_setting for_sighting (P.meaning ruled.now.plant.now) ruled.now.rules.now (Poised self.state) (Set setting) result }
     {
-        match driven(plant, rules, self.state, setting) {
+        match driven(ruled, self.state, setting) {
             Ok(_) => {
                 let AwaitsSetting { state } = self;
                 Ok(AwaitsSighting { state, setting })

@@ -1,28 +1,27 @@
 // What a stand suggests, among the settings that fit.
-ghost use Rattle.std.specs.Prelude.{◌≡◌, true, false, MatchOption};
+ghost use Rattle.std.specs.Prelude.{◌≡◌, MatchOption};
+ghost use Rattle.std.specs.List.{find, range_with_len};
+ghost use Rattle.plant.specs.Meaning.{settings};
+ghost use Rattle.reader.specs.Step.{fits_there};
 ghost use Rattle.stands.specs.Suggestion.{LowestFit, NoneFits, Suggests};
 
 use crate::stand::AwaitsSetting;
 use plant::Plant;
-use rules::{Rule, fits};
+use rules::RuledPlant;
 
 // The lowest setting that fits in this state.
-fn lowest_fit<P: Plant>(plant: &P, rules: &[Rule], state: u32) -> Option<u32>
-    ensures { MatchOption result (NoneFits (P.meaning plant.now) rules.now state) (λ a. LowestFit (P.meaning plant.now) rules.now state a) }
+fn lowest_fit<P: Plant>(ruled: &RuledPlant<'_, P>, state: u32) -> Option<u32>
+    ensures value { result ≡ find (fits_there (P.meaning ruled.now.plant.now) ruled.now.rules.now state) (range_with_len 0 (settings (P.meaning ruled.now.plant.now))) }
+    ensures in_words { MatchOption result (NoneFits (P.meaning ruled.now.plant.now) ruled.now.rules.now state) (λ a. LowestFit (P.meaning ruled.now.plant.now) ruled.now.rules.now state a) }
 {
-    for setting in 0..plant.settings() {
-        if fits(plant, rules, state, setting) {
-            return Some(setting);
-        }
-    }
-    None
+    (0..ruled.plant.settings()).find(|setting| ruled.fits(state, *setting))
 }
 
 impl AwaitsSetting {
     // The setting that the console suggests: the lowest that fits, none where no setting fits.
-    pub fn suggestion<P: Plant>(&self, plant: &P, rules: &[Rule]) -> Option<u32>
-        ensures { Suggests (P.meaning plant.now) rules.now self.now.state result }
+    pub fn suggestion<P: Plant>(&self, ruled: &RuledPlant<'_, P>) -> Option<u32>
+        ensures { Suggests (P.meaning ruled.now.plant.now) ruled.now.rules.now self.now.state result }
     {
-        lowest_fit(plant, rules, self.state)
+        lowest_fit(ruled, self.state)
     }
 }

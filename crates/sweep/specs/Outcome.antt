@@ -2,7 +2,7 @@
 use Rattle.std.specs.Prelude.{◌≡◌, Bool, List, length, Ok, Err, Result, ◌≢◌}
 use Rattle.plant.specs.Meaning.{Meaning, states}
 use Rattle.sweep.specs.Greatest.{Greatest, lasting_states}
-use Rattle.sweep.specs.declared.WrongLength.{WrongLength}
+use Rattle.plant.specs.declared.lent.WrongLength.{WrongLength}
 
 -- flags of a wrong number are left alone and the right number is answered; else they become the greatest lasting set
 pub record Flagged (m : Meaning) (before after : List Bool) (r : Result (Unit {0}) WrongLength) : Type 0 where

@@ -1,7 +1,8 @@
 // The sweep: the greatest lasting set of a plant's states.
 #![tactic(auto)]
 
-ghost use Rattle.std.specs.Prelude.{◌≡◌, ℕ, ◌<◌, true, false, length, Decides, slice_index_or};
+ghost use Rattle.std.specs.Prelude.{◌≡◌, ℕ, ◌<◌, true, false, length, not, ◌||◌, Decides};
+ghost use Rattle.plant.specs.Bounded.{all_below};
 ghost use Rattle.plant.specs.Meaning.{states};
 ghost use Rattle.plant.specs.Lasting.{Stays};
 ghost use Rattle.sweep.specs.Greatest.{held_in};
@@ -9,49 +10,43 @@ ghost use Rattle.plant.specs.Staying.{stays, can_stay};
 ghost use Rattle.sweep.specs.Sweep.{Swept};
 ghost use Rattle.sweep.specs.Outcome.{Flagged};
 
-use plant::Plant;
-
-// The slice lent has not one flag for each state: so many are needed.
-#[derive(Clone, Copy, PartialEq, Eq, Debug)]
-pub struct WrongLength {
-    pub needed: usize,
-}
+use plant::{Plant, WrongLength};
 
 // Whether the flag of `state` is up; a state without a flag counts as down.
 fn is_up(held: &[bool], state: u32) -> bool
     ensures { result ≡ held_in held.now state }
 {
-    let place = state as usize;
-    place < held.len() && held[place]
+    held.get(state as usize).copied().unwrap_or(false)
+}
+
+// Whether `next` can not follow `state` under `setting`, or has its flag up.
+// The plant is asked only where the flag is down.
+fn is_kept<P: Plant>(plant: &P, held: &[bool], state: u32, setting: u32, next: u32) -> bool
+    ensures { result ≡ (not ((P.meaning plant.now).follows state setting next) || held_in held.now next) }
+{
+    is_up(held, next) || !plant.follows(state, setting, next)
+}
+
+// Whether `setting` leads from `state` only to states whose flag is up.
+fn leads_back<P: Plant>(plant: &P, held: &[bool], state: u32, setting: u32) -> bool
+    ensures { result ≡ all_below (λ t. not ((P.meaning plant.now).follows state setting t) || held_in held.now t) (states (P.meaning plant.now)) }
+{
+    (0..plant.states()).all(|next| is_kept(plant, held, state, setting, next))
 }
 
 // Whether `setting` is safe in `state` and leads only to states whose flag is up.
-// The plant is asked about a following only where the flag is down.
 pub fn pair_stays<P: Plant>(plant: &P, held: &[bool], state: u32, setting: u32) -> bool
     ensures value { result ≡ stays (P.meaning plant.now) (held_in held.now) state setting }
     ensures in_words { Decides result (Stays (P.meaning plant.now) (held_in held.now) state setting) }
 {
-    if !plant.is_safe(state, setting) {
-        return false;
-    }
-    for t in 0..plant.states() {
-        if !is_up(held, t) && plant.follows(state, setting, t) {
-            return false;
-        }
-    }
-    true
+    plant.is_safe(state, setting) && leads_back(plant, held, state, setting)
 }
 
 // Whether some setting of `state` is safe and leads only to states whose flag is up.
 fn state_stays<P: Plant>(plant: &P, held: &[bool], state: u32) -> bool
     ensures { result ≡ can_stay (P.meaning plant.now) (held_in held.now) state }
 {
-    for a in 0..plant.settings() {
-        if pair_stays(plant, held, state, a) {
-            return true;
-        }
-    }
-    false
+    (0..plant.settings()).any(|a| pair_stays(plant, held, state, a))
 }
 
 // One sweep: lowers the flag of each state that can not stay among the flagged. Whether a flag fell.
@@ -60,6 +55,7 @@ fn sweep<P: Plant>(plant: &P, held: &mut [bool]) -> bool
     ensures { Swept (P.meaning plant.now) held.old held.new result }
 {
     let mut changed = false;
+    // Each turn reads all the flags and may lower one: an iterator can not lend both.
     for s in 0..plant.states() {
         if held[s as usize] && !state_stays(plant, held, s) {
             held[s as usize] = false;
@@ -67,14 +63,6 @@ fn sweep<P: Plant>(plant: &P, held: &mut [bool]) -> bool
         }
     }
     changed
-}
-
-fn raise_all(held: &mut [bool])
-    ensures { (k : ℕ) → k < length held.new → slice_index_or held.new k false ≡ true }
-{
-    for flag in held.iter_mut() {
-        *flag = true;
-    }
 }
 
 // Flags the states that last: those in which the machine can be kept safe for ever.
@@ -85,7 +73,7 @@ pub fn lasting_states<P: Plant>(plant: &P, held: &mut [bool]) -> Result<(), Wron
     if held.len() != needed {
         return Err(WrongLength { needed });
     }
-    raise_all(held);
+    held.fill(true);
     while sweep(plant, held) {}
     Ok(())
 }

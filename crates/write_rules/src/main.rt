@@ -2,34 +2,10 @@
 #![tactic(auto)]
 
 use archive::{DraftFileFault, draft_file};
-use rules::MAX_RULES;
+use files::{MAX_RULE_FILE, name_failure};
 use std::{env, fs, io};
 
-// Five bytes for each rule that there can be, and one for the end.
-const FILE_LENGTH: usize = 5 * MAX_RULES + 1;
-
-// Reads a file, and says by name where it can not be read.
-fn read_named(rt: &HostRuntime, path: &str) -> anyhow::Result<Vec<u8>> {
-    match fs::read(rt, path) {
-        Ok(bytes) => Ok(bytes),
-        Err(error) => {
-            println!(rt; "cannot read {path}: {error}")?;
-            Err(error.into())
-        }
-    }
-}
-
-// Writes a file, and says by name where it can not be written.
-fn write_named(rt: &HostRuntime, path: &str, bytes: &[u8]) -> anyhow::Result<()> {
-    match fs::write(rt, path, bytes) {
-        Ok(()) => Ok(()),
-        Err(error) => {
-            println!(rt; "cannot write {path}: {error}")?;
-            Err(error.into())
-        }
-    }
-}
-
+// Each program words its own line for a fault, and for want of memory: one function for all would take both as texts.
 fn print_fault(rt: &HostRuntime, fault: DraftFileFault) -> io::Result<()> {
     let why = match fault {
         DraftFileFault::Plan(_) => "the plan is turned away",
@@ -43,12 +19,13 @@ fn print_fault(rt: &HostRuntime, fault: DraftFileFault) -> io::Result<()> {
 }
 
 fn draft_named(rt: &HostRuntime, from: &str, to: &str) -> anyhow::Result<()> {
-    let plan = read_named(rt, from)?;
-    let mut file = [0; FILE_LENGTH];
+    let plan = name_failure(rt, "read", from, fs::read(rt, from))?;
+    let mut file = [0; MAX_RULE_FILE];
     match draft_file(rt.alloc(), plan.as_slice(), &mut file) {
         Ok(length) => {
             let count = length / 5;
-            write_named(rt, to, &file[0..length])?;
+            let written = fs::write(rt, to, &file[..length]);
+            name_failure(rt, "write", to, written)?;
             println!(rt; "wrote {count} rules, {length} bytes, to {to}")?;
         }
         Err(fault) => print_fault(rt, fault)?,
@@ -57,8 +34,7 @@ fn draft_named(rt: &HostRuntime, from: &str, to: &str) -> anyhow::Result<()> {
 }
 
 fn main(rt: HostRuntime) -> anyhow::Result<()> {
-    let mut words = env::args(&rt)?;
-    let _ = words.next();
+    let mut words = env::args(&rt)?.skip(1);
     let (Some(from), Some(to)) = (words.next(), words.next()) else {
         println!(rt; "usage: write_rules PLAN RULES")?;
         return Ok(());

@@ -1,4 +1,5 @@
-use Rattle.std.proofs.Common.{◌≡◌, length, refl, arith}
+use Rattle.std.proofs.Common.{◌≡◌, true, false, length, refl, arith}
+use Rattle.std.proofs.lemmas.List.{get_or-replicate}
 use Rattle.plant.specs.Meaning.{states}
 use Rattle.sweep.specs.Greatest.{Greatest}
 use Rattle.sweep.proofs.Greatest.{greatest_unique, lasting_states_greatest}
@@ -8,7 +9,7 @@ pub loop-init : goal.loop-init
 loop-init g c = λ L lasts s e.
     let w = lasts s e in
     let lt = (g.P.Plant.sound c.args.plant.now).safe_state s w.0 w.1.0 in
-    c.raise_all.ensures s (omega arith)
+    rw (c.fill.ensures.after (λ y h. h)) (get_or-replicate (length c.args.held.now) s true false (omega arith))
 
 pub loop-preserved : goal.loop-preserved
 loop-preserved g c = λ L lasts. c.sweep.ensures.keeps L lasts (c.loop.invariant L lasts)

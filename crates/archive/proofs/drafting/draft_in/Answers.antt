@@ -2,7 +2,7 @@ use Rattle.std.proofs.Common.{◌≡◌, ◌-◌, ◌≤◌, length, take, IfOk,
 use Rattle.std.proofs.lemmas.Result.{err_from_is_err_and}
 use Rattle.std.proofs.lemmas.List.{length-take-le}
 use Rattle.plant.specs.Meaning.{states}
-use Rattle.plant.proofs.Sizes.{few_states}
+use Rattle.plant.proofs.Limits.{few_states}
 use Rattle.draft.specs.Outcome.{WentThrough}
 use Rattle.draft.specs.Rows.{places_needed}
 use Rattle.rule_file.specs.Outcome.{Written}

@@ -1,8 +1,11 @@
-use Rattle.std.proofs.Common.{arith}
-use Rattle.plant.proofs.Tests.{all_from_places}
+use Rattle.std.proofs.Common.{rules, tests, ◌^◌, not}
+use Rattle.std.proofs.lemmas.Iterator.{YieldsList-from_slice}
+use Rattle.std.proofs.lemmas.Iterator.Search.{position_from_yields_List}
+use Rattle.plant.proofs.Firsts.{first_misfit}
 use Rattle.bench.proofs.entry.first_misfit.Goals as goal
 
 pub returns : goal.returns
 returns g c =
-    all_from_places (g.E.Entry.within c.args.states c.args.settings) c.args.entries.now
-    (λ k d lt. c.loop-i.invariant k d (omega arith))
+    let fits = g.E.Entry.within (2 ^ c.args.sizes.state_bits) (2 ^ c.args.sizes.lines) in
+    first_misfit fits c.args.entries.now c.position.result
+    (position_from_yields_List (λ x. not (fits x)) _ _ c.position.result c.position.ensures.ran (YieldsList-from_slice c.args.entries.now cc) (λ x b q k. search (rules, tests)))

@@ -1,4 +1,4 @@
-use Rattle.std.proofs.Common.{subst, rules}
+use Rattle.std.proofs.Common.{rules, subst₂}
 use Rattle.layers.specs.Bans.{AllWithin}
 use Rattle.layers.proofs.Bans.{banned_words}
 use Rattle.layers.proofs.Stacked.{over_bans}
@@ -10,7 +10,7 @@ returns g c =
     let bans = c.args.bans.now in
     record {
       few = search rules;
-      within = subst (λ b. AllWithin b m.lines bans) c.state_bits.ensures (subst (λ n. AllWithin c.state_bits.result n bans) c.lines.ensures c.in_default.ensures);
+      within = subst₂ (λ b n. AllWithin b n bans) c.sizes.ensures.0 c.sizes.ensures.1 c.in_default.ensures;
       words = banned_words m (g.P.Plant.sound c.args.below.now) bans;
       over_bans = over_bans m bans;
     }

@@ -1,21 +1,12 @@
-use Rattle.std.proofs.Common.{◌≡◌, length, refl, subst, arith}
+use Rattle.std.proofs.Common.{◌≡◌, length, subst, arith}
 use Rattle.rule_file.proofs.Records.{file_length}
 use Rattle.rule_file.proofs.Writes.{WrittenUpTo, one_written, end_written}
 use Rattle.rule_file.proofs.writing.put_rules.Goals as goal
-
-pub loop-i-init : goal.loop-i-init
-loop-i-init c = record { front = refl; back = refl }
-
-pub put_rule-requires : goal.put_rule-requires
-put_rule-requires c = let e = file_length c.args.list.now in omega arith
 
 pub loop-i-preserved : goal.loop-i-preserved
 loop-i-preserved c =
     let e = file_length c.args.list.now in
     one_written c.args.list.now c.args.file.now c.loop-i.file c.put_rule.new.file c.loop-i.i _ c.loop-i-test.true (omega arith) c.put_rule.ensures c.loop-i.invariant
-
-pub bounds-file-list : goal.bounds-file-list
-bounds-file-list c = let e = file_length c.args.list.now in omega arith
 
 pub returns : goal.returns
 returns c =

@@ -1,11 +1,10 @@
-use Rattle.std.proofs.Common.{◌≡◌, ℕ, ◌^◌, ◌<◌, ◌≤◌, List, ◌++◌, length, codes, decimal, ap, ◌∙◌, subst, append_assoc, arith}
+use Rattle.std.proofs.Common.{◌≡◌, ℕ, ◌^◌, ◌<◌, ◌≤◌, List, ◌++◌, length, codes, decimal, ap, ◌∙◌, subst, append_assoc, arith, rules, length-append}
 use Rattle.std.proofs.lemmas.Fmt.{length-decimal-le}
-use Rattle.std.proofs.lemmas.List.{length-append}
 use Rattle.refusal.specs.Shown.{layer_word}
 use Rattle.refusal.specs.declared.Layer.{Layer}
 use Rattle.refusal.specs.declared.Layer.TheVariants.{Bytes, Plan, Plant, Draft, Rules, Log}
-use Rattle.draft.specs.Writing.{Wrote}
-use Rattle.draft.proofs.Writing.{wrote_more}
+use Rattle.filling.specs.Adding.{Added}
+use Rattle.filling.proofs.Adding.{added_more}
 use Rattle.sheet_call.specs.Page.{line_end}
 use Rattle.sheet_call.proofs.page.put_refusal.Goals as goal
 
@@ -21,41 +20,35 @@ short_word Draft = omega arith
 short_word Rules = omega arith
 short_word Log = omega arith
 
-pub put_spaced-number-requires : goal.put_spaced-number-requires
-put_spaced-number-requires c =
+pub put_spaced-requires : goal.put_spaced-requires
+put_spaced-requires c =
     let l = length-append (decimal c.args.refusal.number) (codes " ") in
     let n = short c.args.refusal.number (omega arith) in
-    let e = c.put_bytes-word.ensures.ends in
+    let size = ap length c.new-page.ensures.as_before in
     omega arith
 
-pub put_spaced-place-requires : goal.put_spaced-place-requires
-put_spaced-place-requires c =
+pub put_spaced-requires-2 : goal.put_spaced-requires-2
+put_spaced-requires-2 c =
     let l = length-append (decimal c.args.refusal.place) (codes " ") in
     let n = short c.args.refusal.number (omega arith) in
     let p = short c.args.refusal.place (omega arith) in
-    let e = c.put_bytes-word.ensures.ends in
-    let f = c.put_spaced-number.ensures.ends in
+    let size = ap length c.new-page.ensures.as_before in
     omega arith
 
-pub put_bytes-layer-requires : goal.put_bytes-layer-requires
-put_bytes-layer-requires c =
+pub put-requires-2 : goal.put-requires-2
+put-requires-2 c =
     let n = short c.args.refusal.number (omega arith) in
     let p = short c.args.refusal.place (omega arith) in
-    let e = c.put_bytes-word.ensures.ends in
-    let f = c.put_spaced-number.ensures.ends in
-    let g = c.put_spaced-place.ensures.ends in
+    let size = ap length c.new-page.ensures.as_before in
     let w = short_word c.args.refusal.layer in
     let s = ap length (c.as_bytes.ensures.value ∙ c.word.ensures) in
     omega arith
 
-pub put_byte-requires : goal.put_byte-requires
-put_byte-requires c =
+pub put-requires-3 : goal.put-requires-3
+put-requires-3 c =
     let n = short c.args.refusal.number (omega arith) in
     let p = short c.args.refusal.place (omega arith) in
-    let e = c.put_bytes-word.ensures.ends in
-    let f = c.put_spaced-number.ensures.ends in
-    let g = c.put_spaced-place.ensures.ends in
-    let h = c.put_bytes-layer.ensures.ends in
+    let size = ap length c.new-page.ensures.as_before in
     let w = short_word c.args.refusal.layer in
     let s = ap length (c.as_bytes.ensures.value ∙ c.word.ensures) in
     omega arith
@@ -65,20 +58,10 @@ grouped a n s p w e = simp append_assoc
 
 pub returns : goal.returns
 returns c =
-    let n = short c.args.refusal.number (omega arith) in
-    let p = short c.args.refusal.place (omega arith) in
-    let e = c.put_bytes-word.ensures.ends in
-    let f = c.put_spaced-number.ensures.ends in
-    let g = c.put_spaced-place.ensures.ends in
-    let h = c.put_bytes-layer.ensures.ends in
-    let w = short_word c.args.refusal.layer in
-    let word = c.as_bytes.ensures.value ∙ c.word.ensures in
-    let s = ap length word in
     let number = decimal c.args.refusal.number in
     let place = decimal c.args.refusal.place in
-    subst (λ xs. Wrote c.args.text.now c.put_byte.new.text 0 c.put_byte.result xs)
-    (ap (λ x. codes "refused " ++ ((number ++ codes " ") ++ ((place ++ codes " ") ++ (x ++ line_end)))) word ∙ grouped (codes "refused ") number (codes " ") place (layer_word c.args.refusal.layer) line_end)
-    (wrote_more _ _ _ _ _ _ _ _ (omega arith) c.put_bytes-word.ensures
-    (wrote_more _ _ _ _ _ _ _ _ (omega arith) c.put_spaced-number.ensures
-    (wrote_more _ _ _ _ _ _ _ _ (omega arith) c.put_spaced-place.ensures
-    (wrote_more _ _ _ _ _ _ _ _ (omega arith) c.put_bytes-layer.ensures c.put_byte.ensures))))
+    let written : Added c.new-page.result c.put-3.new.page ((codes "refused " ++ (number ++ (codes " " ++ (place ++ (codes " " ++ layer_word c.args.refusal.layer))))) ++ line_end) =
+    subst (λ xs. Added c.new-page.result c.put-3.new.page xs)
+    (ap (λ x. codes "refused " ++ ((number ++ codes " ") ++ ((place ++ codes " ") ++ (x ++ line_end)))) (c.as_bytes.ensures.value ∙ c.word.ensures) ∙ grouped (codes "refused ") number (codes " ") place (layer_word c.args.refusal.layer) line_end)
+    (added_more c.put.ensures (added_more c.put_spaced.ensures (added_more c.put_spaced-2.ensures (added_more c.put-2.ensures c.put-3.ensures)))) in
+    search rules

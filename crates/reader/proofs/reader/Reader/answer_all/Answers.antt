@@ -12,8 +12,8 @@ use Rattle.reader.proofs.reader.Reader.answer_all.Goals as goal
 
 pub loop-i-preserved : goal.loop-i-preserved
 loop-i-preserved g c =
-    let m = g.P.Plant.meaning c.args.plant.now in
-    let rs = c.args.rules.now in
+    let m = g.P.Plant.meaning c.args.ruled.now.plant.now in
+    let rs = c.args.ruled.now.rules.now in
     let calls = c.args.calls.now in
     let start = c.args.self.now.phase in
     let i = c.loop-i.i in
@@ -28,9 +28,9 @@ loop-i-preserved g c =
 
 pub returns : goal.returns
 returns g c =
-    let m = g.P.Plant.meaning c.args.plant.now in
-    let within = g.P.Plant.sound c.args.plant.now in
-    let rs = c.args.rules.now in
+    let m = g.P.Plant.meaning c.args.ruled.now.plant.now in
+    let within = g.P.Plant.sound c.args.ruled.now.plant.now in
+    let rs = c.args.ruled.now.rules.now in
     let calls = c.args.calls.now in
     let start = c.args.self.now.phase in
     let i = c.loop-i.i in

@@ -1,8 +1,0 @@
-use Rattle.std.proofs.Common.{◌≡◌, ℕ, ◌<◌, false}
-use Rattle.plan.specs.Held.{parts_of}
-use Rattle.plan.specs.Machine.{banned, extension}
-use Rattle.plan.proofs.plan.Plan.never_banned.Given as goal
-
--- no assignment below x does it
-abbrev pub invariant-loop-x : goal.invariant-loop-x
-invariant-loop-x l = (k : ℕ) → k < l.x → banned (parts_of l.self) (extension (parts_of l.self) l.state l.setting k) ≡ false
