@@ -1,14 +1,17 @@
 -- The draft of a plant, written as a rule file. Assumes nothing.
-use Rattle.std.proofs.Common.{◌≡◌, ℕ, ◌-◌, List, ◌++◌, length, take, drop, Ok, Err, sym, refl, ap, ◌∙◌, subst, ⊎_elim, arith}
-use Rattle.std.proofs.lemmas.List.{take_at}
+use Rattle.std.proofs.Common.{◌≡◌, ℕ, ◌-◌, ◌^◌, List, ◌++◌, length, take, drop, Ok, Err, Result, sym, refl, ap, ◌∙◌, subst, ⊎_elim, arith}
+use Rattle.std.proofs.lemmas.List.{take_at, length-take-le}
 use Rattle.std.proofs.lemmas.Bool.{cases_lt}
-use Rattle.plant.specs.Meaning.{Meaning}
+use Rattle.plant.specs.Meaning.{Meaning, Within, states, most_bits}
+use Rattle.plant.proofs.Limits.{few_states}
+use Rattle.rules.specs.Limits.{most_rules}
 use Rattle.rules.specs.Listing.{rules_of}
 use Rattle.rules.specs.declared.Rule.{Rule}
-use Rattle.draft.specs.Outcome.{Answered, WentThrough}
+use Rattle.draft.specs.Outcome.{Answered, Drafted, WentThrough}
 use Rattle.draft.specs.Starts.{Lost}
 use Rattle.draft.specs.declared.fault.DraftFault.{DraftFault}
 use Rattle.draft.specs.declared.fault.DraftFault.TheVariants.{RowCount, RulePlaces, LostStart}
+use Rattle.draft.proofs.Places.{few_places}
 use Rattle.rule_file.specs.Encoding.{rules_bytes}
 use Rattle.rule_file.specs.Outcome.{Written}
 use Rattle.rule_file.specs.declared.fault.RuleFileFault.{RuleFileFault}
@@ -16,6 +19,14 @@ use Rattle.rule_file.specs.declared.fault.RuleFileFault.TheVariants.{FileRoom}
 use Rattle.archive.specs.Drafting.{Hopeful, draft_rules}
 use Rattle.archive.specs.Outcome.{DraftedFile}
 use Rattle.archive.specs.declared.fault.DraftFileFault.TheVariants.{Draft, Rules}
+
+-- memory for the largest plant has the right lengths for each plant
+pub answered : (m : Meaning) → Within m → (n : ℕ) (rows rows' : List ℕ) (list list' : List Rule) (r : Result ℕ DraftFault) → n ≡ states m → length rows ≡ 2 ^ most_bits → length list ≡ most_rules
+    → Drafted m (take (n - 0) rows) rows' list list' r → Answered m rows' list list' r
+answered m within n rows rows' list list' r is many places drafted =
+    let few = few_places m within in
+    let all = few_states m within in
+    drafted.answered (length-take-le (n - 0) rows (omega arith) ∙ (let e : n - 0 ≡ states m = omega arith in e)) (omega arith)
 
 module _ (m : Meaning) (rows : List ℕ) (list list' : List Rule) where
   pub drafted_err : (file : List ℕ) (f : DraftFault) → Answered m rows list list' (Err f) → DraftedFile m file file (Err (Draft f))

@@ -2,6 +2,7 @@
 use Rattle.std.proofs.Common.{◌≡◌, ℕ, ◌≤◌, List, [], ◌∷◌, ◌++◌, length, take, drop, Ok, Err, Result, sym, refl, ap, ◌∙◌, subst, arith}
 use Rattle.std.proofs.lemmas.List.{length_push, take_at}
 use Rattle.plant.specs.Meaning.{Meaning, Within, states}
+use Rattle.records.proofs.Finding.{err_ok}
 use Rattle.rules.specs.Limits.{most_rules}
 use Rattle.rules.specs.declared.Rule.{Rule}
 use Rattle.rules.proofs.Listing.{lists_standing, states_length}
@@ -28,10 +29,6 @@ use Rattle.archive.specs.Right.{Right}
 use Rattle.archive.specs.declared.fault.ArchiveFault.TheVariants.{Rules}
 use Rattle.archive.specs.declared.judging.Verdict.{Verdict}
 use Rattle.archive.proofs.Law.{run_right}
-
--- two answers of different kinds are not the same
-err_ok : {X Y : Type 0} (e : Y) (x : X) → ◌≡◌ {A = Result X Y} (Err e) (Ok x) → ⊥
-err_ok e x is = let z : ◌≡◌ {A = ℕ} 0 1 = cc in omega arith
 
 -- a refusal is counted as it was computed
 computed_err : (x : Reads) (f : RuleFileFault) → Err f ≡ counted x → x ≡ Err f

@@ -13,6 +13,7 @@ use rules::{MAX_RULES, Rule};
 use std::alloc::Global;
 
 // Drafts any plant with memory for the largest, and writes its rules to the file.
+// A function apart: in one with its caller, too few places would be turned away in a proof file and by no clause.
 fn draft_in<P: Plant>(
     plant: &P,
     rows: &mut [Row],

@@ -31,7 +31,7 @@ pub enum DraftFileFault {
 
 impl ArchiveFault {
     // Number, place and layer of the fault inside; want of memory has none.
-    // A method and no `From`: of some faults there is no refusal, and one name asks all of them.
+    // No `From`: want of memory has no refusal, and one spelling serves every fault.
     pub fn refusal(&self) -> Option<Refusal>
         ensures { result ≡ archive_refusal self.now }
     {
@@ -44,7 +44,7 @@ impl ArchiveFault {
 
 impl DraftFileFault {
     // Number, place and layer of the fault inside; want of memory has none.
-    // A method and no `From`: of some faults there is no refusal, and one name asks all of them.
+    // No `From`: want of memory has no refusal, and one spelling serves every fault.
     pub fn refusal(&self) -> Option<Refusal>
         ensures { result ≡ draft_file_refusal self.now }
     {

@@ -1,6 +1,5 @@
 // The verdict on a log, from what was stored: a plan, a rule file and the log.
-ghost use Rattle.std.specs.Prelude.{◌≡◌, length, Some};
-ghost use Rattle.rules.specs.Limits.{most_rules};
+ghost use Rattle.std.specs.Prelude.{Some};
 ghost use Rattle.archive.specs.Shown.{verdict_words};
 ghost use Rattle.archive.specs.Outcome.{Judged, RightByDraft, Archived, WholeChain};
 
@@ -33,32 +32,18 @@ impl fmt::Display for Verdict {
     }
 }
 
-// The verdict on a log by a rule file, for any plant, with places for the rules.
-fn verdict_in<P: Plant>(
-    plant: &P,
-    list: &mut [Rule],
-    rules: &[u8],
-    log: &[u8],
-) -> Result<Verdict, RuleFileFault>
-    requires { length list.old ≡ most_rules }
-    ensures judged { Judged (P.meaning plant.now) rules.now log.now result }
-    ensures right { RightByDraft (P.meaning plant.now) rules.now log.now result }
-{
-    let count = read_rules(plant.state_bits(), plant.lines(), rules, list)?;
-    let rules = &list[0..count];
-    let mut reader = Reader::new();
-    let outcome = run_log(&mut reader, &RuledPlant { plant, rules }, log);
-    let phase = reader.phase();
-    Ok(Verdict { outcome, phase })
-}
-
 // The verdict on a log by a rule file, for any plant. It allocates nothing.
 pub fn verdict_by<P: Plant>(plant: &P, rules: &[u8], log: &[u8]) -> Result<Verdict, RuleFileFault>
     ensures judged { Judged (P.meaning plant.now) rules.now log.now result }
     ensures right { RightByDraft (P.meaning plant.now) rules.now log.now result }
 {
     let mut list = [Rule::default(); MAX_RULES];
-    verdict_in(plant, &mut list, rules, log)
+    let count = read_rules(plant.state_bits(), plant.lines(), rules, &mut list)?;
+    let rules = &list[0..count];
+    let mut reader = Reader::new();
+    let outcome = run_log(&mut reader, &RuledPlant { plant, rules }, log);
+    let phase = reader.phase();
+    Ok(Verdict { outcome, phase })
 }
 
 // The verdict on a log by a plan and a rule file: from the bytes that were stored to whether each call was permitted.

@@ -1,7 +1,8 @@
 -- What making a bench table answers, for all input. Assumes nothing.
 use Rattle.std.specs.Prelude.{◌≡◌, ℕ, ◌+◌, ◌^◌, true, false, ◌⊎◌, List, length, Ok, Err, vec_items, Result}
 use Rattle.plant.specs.Meaning.{Meaning}
-use Rattle.bench.specs.Entries.{start_fits, move_fits}
+use Rattle.plant.specs.Entries.{start_fits}
+use Rattle.bench.specs.Entries.{move_fits}
 use Rattle.plant.specs.Sizes.{sizes_fit}
 use Rattle.plant.specs.Tests.{FirstMisfit}
 use Rattle.std.specs.List.{list_all}

@@ -3,7 +3,8 @@ use Rattle.std.specs.Prelude.{◌≡◌, ℕ, ◌^◌, ◌<◌, Bool, true, List
 use Rattle.std.proofs.Common.{sym, subst}
 use Rattle.std.proofs.lemmas.Bool.{and_parts, leb-true, ltb-true, eqb-true}
 use Rattle.plant.specs.Meaning.{Within}
-use Rattle.bench.specs.Entries.{start_fits, move_fits}
+use Rattle.plant.specs.Entries.{start_fits}
+use Rattle.bench.specs.Entries.{move_fits}
 use Rattle.plant.specs.Sizes.{sizes_fit}
 use Rattle.std.specs.List.{list_all, list_any}
 use Rattle.plant.proofs.Tests.{some_fits}

@@ -2,7 +2,8 @@
 use Rattle.std.specs.Prelude.{◌≡◌, ℕ, ◌^◌, Bool, true, ◌&&◌, List, Decides, ◌==◌, nat_eq}
 use mathlib.Core.List.{Memᴰ}
 use Rattle.plant.specs.Meaning.{Meaning}
-use Rattle.bench.specs.Entries.{start_fits, move_fits}
+use Rattle.plant.specs.Entries.{start_fits}
+use Rattle.bench.specs.Entries.{move_fits}
 use Rattle.plant.specs.Sizes.{sizes_fit}
 use Rattle.std.specs.List.{list_all, list_any}
 use Rattle.bench.specs.declared.entry.Move.{Move}

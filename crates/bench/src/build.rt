@@ -2,10 +2,10 @@
 ghost use Rattle.std.specs.Prelude.{◌≡◌};
 ghost use Rattle.bench.specs.Outcome.{Built};
 
-use crate::entry::{Move, first_misfit};
+use crate::entry::Move;
 use crate::fault::TableFault;
 use crate::table::BenchTable;
-use plant::Sizes;
+use plant::{Sizes, first_misfit};
 
 impl BenchTable {
     // The table of these starts and moves; a size out of its limits is refused first, then the first entry beyond the sizes.

@@ -1,11 +1,9 @@
-// The entries of a bench table, and which of them is the first beyond the sizes.
-ghost use Rattle.std.specs.Prelude.{◌≡◌, ℕ, ◌^◌, Bool, true, MatchOption};
-ghost use Rattle.bench.specs.Entries.{start_fits, move_fits};
+// The moves of a bench table.
+ghost use Rattle.std.specs.Prelude.{◌≡◌, ◌^◌};
+ghost use Rattle.bench.specs.Entries.{move_fits};
 ghost use Rattle.bench.specs.Table.{leaves, goes};
-ghost use Rattle.plant.specs.Tests.{FirstMisfit};
-ghost use Rattle.std.specs.List.{list_all};
 
-use plant::Sizes;
+use plant::{Entry, Sizes};
 
 // From state `from`, by `setting`, the machine may move to state `to`.
 #[derive(Clone, Copy, PartialEq, Eq, Debug)]
@@ -15,25 +13,8 @@ pub struct Move {
     pub to: u32,
 }
 
-pub(crate) trait Entry {
-    // Whether the entry names only states and settings that there are.
-    ghost within: { ℕ → ℕ → Self → Bool };
-
-    fn fits(&self, sizes: Sizes) -> bool
-        ensures { result ≡ within (2 ^ sizes.state_bits) (2 ^ sizes.lines) self.now };
-}
-
-// A start is a state.
-impl Entry for u32 {
-    ghost within = { start_fits };
-
-    fn fits(&self, sizes: Sizes) -> bool {
-        *self < sizes.states()
-    }
-}
-
 impl Entry for Move {
-    ghost within = { move_fits };
+    ghost within = { λ b n. move_fits (2 ^ b) (2 ^ n) };
 
     fn fits(&self, sizes: Sizes) -> bool {
         self.from < sizes.states() && self.setting < sizes.settings() && self.to < sizes.states()
@@ -54,11 +35,4 @@ impl Move {
     {
         self.leaves(state, setting) && self.to == next
     }
-}
-
-// The index of the first entry that does not fit.
-pub(crate) fn first_misfit<E: Entry>(entries: &[E], sizes: Sizes) -> Option<usize>
-    ensures { MatchOption result (list_all (E.within (2 ^ sizes.state_bits) (2 ^ sizes.lines)) entries.now ≡ true) (λ i. FirstMisfit (E.within (2 ^ sizes.state_bits) (2 ^ sizes.lines)) entries.now i) }
-{
-    entries.iter().position(|entry| !entry.fits(sizes))
 }

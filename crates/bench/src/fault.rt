@@ -14,7 +14,7 @@ pub enum TableFault {
 
 impl TableFault {
     // The fault's number, place and layer.
-    // A method and no `From`: of some faults there is no refusal, and one name asks all of them.
+    // No `From`: want of memory has no refusal, and one spelling serves every fault.
     pub fn refusal(&self) -> Refusal
         ensures { result ≡ table_refusal self.now }
     {
@@ -22,11 +22,6 @@ impl TableFault {
             TableFault::SizeLimits => (4, 0),
             TableFault::EntryBeyond { index } => (12, *index),
         };
-        let layer = Layer::Plant;
-        Refusal {
-            number,
-            place,
-            layer,
-        }
+        Refusal::new(number, place, Layer::Plant)
     }
 }

@@ -2,12 +2,11 @@
 #![tactic(auto)]
 
 use draft::draft;
-use either_stand::Stand;
 use plan::Plan;
 use plant::Row;
 use reader::Call;
 use rules::{Rule, RuledPlant};
-use stands::{AwaitsSetting, AwaitsSighting, NotTaken};
+use stands::{AwaitsSetting, AwaitsSighting, NotTaken, Stand};
 use std::fmt::Display;
 use std::io;
 use worked::brake_plan;

@@ -16,7 +16,7 @@ pub enum DraftFault {
 
 impl DraftFault {
     // The fault's number, place and layer.
-    // A method and no `From`: of some faults there is no refusal, and one name asks all of them.
+    // No `From`: want of memory has no refusal, and one spelling serves every fault.
     pub fn refusal(&self) -> Refusal
         ensures { result ≡ draft_refusal self.now }
     {
@@ -25,11 +25,6 @@ impl DraftFault {
             DraftFault::RulePlaces { needed } => (11, *needed),
             DraftFault::LostStart { state } => (10, *state as usize),
         };
-        let layer = Layer::Draft;
-        Refusal {
-            number,
-            place,
-            layer,
-        }
+        Refusal::new(number, place, Layer::Draft)
     }
 }

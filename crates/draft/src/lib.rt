@@ -32,7 +32,9 @@ fn check_room<P: Plant>(plant: &P, rows: usize, rules: usize) -> Result<(), Draf
     Ok(())
 }
 
-// Drafts into memory of the right lengths. Each step names the length that it needs: a struct of both loans is no plainer,
+// Drafts into memory of the right lengths.
+// A function apart: its proof file says what follows in words, and `draft` needs none.
+// Each step names the length that it needs: a struct of both loans is no plainer,
 // since its invariant speaks of the plant too, and each contract names both loans again.
 fn draft_in_room<P: Plant>(
     plant: &P,
@@ -52,6 +54,7 @@ fn draft_in_room<P: Plant>(
 
 // Fills the rows with the largest safe assignment and, where every start lasts, writes its rules
 // by state, line and prefix. The number of rules.
+// By a rule of the project all memory is lent: no heap, so no `Vec` of rows or rules.
 pub fn draft<P: Plant>(plant: &P, rows: &mut [Row], rules: &mut [Rule]) -> Result<usize, DraftFault>
     ensures outcome { Drafted (P.meaning plant.now) rows.old rows.new rules.old rules.new result }
     ensures within { IfOk result (λ n. n ≤ length rules.new) }

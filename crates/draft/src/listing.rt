@@ -20,7 +20,8 @@ struct Listed {
     row: Row,
 }
 
-// Writes one rule. There is room for it, so it is not turned away.
+// Writes one rule. There is room for it, so it is not turned away;
+// by `?` each caller would hand on a fault that can not come.
 fn put(rules: &mut Filling<'_, Rule>, rule: Rule)
     requires { HasRoom rules.old 1 }
     ensures { Added rules.old rules.new (rule ∷ []) }

@@ -6,38 +6,38 @@ ghost use Rattle.draft.specs.Rows.{row_from, rows_from, rows_of};
 ghost use Rattle.draft.specs.Starts.{Lost, AllOpen};
 
 use plant::{MAX_STATES, Plant, Row};
-use sweep::{lasting_states, pair_stays};
+use sweep::{FlaggedPlant, lasting_states};
 
 // The settings of `state` that are safe and lead only to states whose flag is up.
-fn open_row<P: Plant>(plant: &P, held: &[bool], state: u32) -> Row
-    ensures { result ≡ row_from (P.meaning plant.now) held.now state }
+fn open_row<P: Plant>(flagged: &FlaggedPlant<'_, P>, state: u32) -> Row
+    ensures { result ≡ row_from (P.meaning flagged.now.plant.now) flagged.now.held.now state }
 {
-    (0..plant.settings())
-        .filter(|a| pair_stays(plant, held, state, *a))
+    (0..flagged.plant.settings())
+        .filter(|a| flagged.pair_stays(state, *a))
         .fold(0, |row, a| row | 1 << a)
 }
 
 // The row of a state, given the flags of the states that last. The plant is asked only where the flag is up:
 // a state that does not last has nothing open.
-fn row_of<P: Plant>(plant: &P, held: &[bool], state: usize) -> Row
-    requires flags { Greatest (P.meaning plant.now) held.now }
-    requires a_state { state < states (P.meaning plant.now) }
-    ensures { result ≡ row_from (P.meaning plant.now) held.now state }
+fn row_of<P: Plant>(flagged: &FlaggedPlant<'_, P>, state: usize) -> Row
+    requires flags { Greatest (P.meaning flagged.now.plant.now) flagged.now.held.now }
+    requires a_state { state < states (P.meaning flagged.now.plant.now) }
+    ensures { result ≡ row_from (P.meaning flagged.now.plant.now) flagged.now.held.now state }
 {
-    if !held[state] {
+    if !flagged.held[state] {
         return 0;
     }
-    open_row(plant, held, state as u32)
+    open_row(flagged, state as u32)
 }
 
 // Writes the row of each state, given the flags of the states that last.
-fn write_rows<P: Plant>(plant: &P, held: &[bool], rows: &mut [Row])
-    requires each_state { length rows.old ≡ states (P.meaning plant.now) }
-    requires flags { Greatest (P.meaning plant.now) held.now }
-    ensures { rows.new ≡ rows_from (P.meaning plant.now) held.now }
+fn write_rows<P: Plant>(flagged: &FlaggedPlant<'_, P>, rows: &mut [Row])
+    requires each_state { length rows.old ≡ states (P.meaning flagged.now.plant.now) }
+    requires flags { Greatest (P.meaning flagged.now.plant.now) flagged.now.held.now }
+    ensures { rows.new ≡ rows_from (P.meaning flagged.now.plant.now) flagged.now.held.now }
 {
     for (state, row) in rows.iter_mut().enumerate() {
-        *row = row_of(plant, held, state);
+        *row = row_of(flagged, state);
     }
 }
 
@@ -49,7 +49,7 @@ pub(crate) fn fill_rows<P: Plant>(plant: &P, rows: &mut [Row])
     let mut flags = [false; MAX_STATES];
     let held = &mut flags[0..rows.len()];
     let _ = lasting_states(plant, held);
-    write_rows(plant, held, rows);
+    write_rows(&FlaggedPlant { plant, held }, rows);
 }
 
 // The lowest start whose row is empty.

@@ -6,9 +6,9 @@ mod tests {
     use bench::{Move, TableFault};
     use draft::{DraftFault, draft};
     use plant::{Plant, Row};
-    use refusal::Layer;
+    use refusal::{Layer, Refusal};
     use rules::{Rule, RuledPlant};
-    use samples::{DETOUR, refused, rule, step, table_of};
+    use samples::{DETOUR, rule, step, table_of};
     use std::test::Fail;
 
     // A rule that stands in the memory before a draft.
@@ -27,7 +27,7 @@ mod tests {
         }
         assert_eq!(rt;
             TableFault::SizeLimits.refusal(),
-            refused(4, 0, Layer::Plant)
+            Refusal::new(4, 0, Layer::Plant)
         );
         Ok(())
     }
@@ -47,7 +47,7 @@ mod tests {
         }
         assert_eq!(rt;
             TableFault::EntryBeyond { index: 3 }.refusal(),
-            refused(12, 3, Layer::Plant)
+            Refusal::new(12, 3, Layer::Plant)
         );
         Ok(())
     }
@@ -87,7 +87,7 @@ mod tests {
         assert_eq!(rt; draft(&plant, &mut rows, &mut rules), Err(lost));
         assert_eq!(rt; rows, [1, 0, 0, 0]);
         assert_eq!(rt; rules, [HELD; 4]);
-        assert_eq!(rt; lost.refusal(), refused(10, 2, Layer::Draft));
+        assert_eq!(rt; lost.refusal(), Refusal::new(10, 2, Layer::Draft));
         Ok(())
     }
 
@@ -122,8 +122,8 @@ mod tests {
             Err(short)
         );
         assert_eq!(rt; rows, [7; 3]);
-        assert_eq!(rt; few.refusal(), refused(11, 2, Layer::Draft));
-        assert_eq!(rt; short.refusal(), refused(11, 6, Layer::Draft));
+        assert_eq!(rt; few.refusal(), Refusal::new(11, 2, Layer::Draft));
+        assert_eq!(rt; short.refusal(), Refusal::new(11, 6, Layer::Draft));
         assert_eq!(rt; draft(&plant, &mut rows[0..2], &mut rules), Ok(2));
         assert_eq!(rt; rows, [1, 0, 7]);
         Ok(())

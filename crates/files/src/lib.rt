@@ -12,13 +12,14 @@ use std::io::{Print, Read};
 pub const MAX_RULE_FILE: usize = 5 * MAX_RULES + 1;
 
 // Fills the buffer from the reader, as far as there is input. The bytes that were read.
+// Of an error no clause speaks: the library does not say what a reader that failed has left.
 #[tactic(auto, using(crate::proofs::Filling::consumed_read))]
 pub fn read_start<'a, R: Read>(reader: &mut R, buffer: &'a mut [u8]) -> io::Result<&'a [u8]>
     ensures within { IfOk result (λ s. length s.now ≤ length buffer.old) }
     ensures read { IfOk result (λ s. Consumes (R.remaining reader.old) (R.remaining reader.new) s.now) }
     ensures whole { IfOk result (λ s. length s.now < length buffer.old → IsAtEnd (R.remaining reader.new)) }
 {
-    // No method of the library fills lent memory as far as there is input, so the count is kept here.
+    // The count is kept here: `io::copy` into lent memory says nothing of the bytes there.
     let mut filled = 0;
     while filled < buffer.len() {
         let count = reader.read(&mut buffer[filled..])?;
@@ -31,6 +32,7 @@ pub fn read_start<'a, R: Read>(reader: &mut R, buffer: &'a mut [u8]) -> io::Resu
 }
 
 // Gives the answer on; where it is an error, it is said first which file can not be read, or written.
+// Where that can not be said either, the error of printing is given in its place.
 pub fn name_failure<T: Drop, P: Print>(
     rt: &P,
     act: &str,

@@ -1,8 +1,7 @@
 // A list that grows in lent places.
 #![tactic(auto)]
 
-ghost use Rattle.std.specs.Prelude.{◌≡◌, [], ◌∷◌, length, MatchResult};
-ghost use Rattle.filling.specs.Adding.{Added, HasRoom};
+ghost use Rattle.std.specs.Prelude.{◌≤◌, length};
 
 // There are not as many places left as are needed.
 #[derive(Clone, Copy, PartialEq, Eq, Debug)]
@@ -13,9 +12,14 @@ pub struct Full;
 pub struct Filling<'a, T> {
     places: &'a mut [T],
     filled: usize,
+    // No more are filled than there are.
+    ghost within: { filled ≤ length places.now },
 }
 
 impl<'a, T: Copy> Filling<'a, T> {
+    ghost use Rattle.std.specs.Prelude.{◌≡◌, [], ◌∷◌, length, MatchResult};
+    ghost use Rattle.filling.specs.Adding.{Added, HasRoom};
+
     // None of the places is filled.
     pub fn new(places: &'a mut [T]) -> Filling<'a, T>
         ensures same_places { result.places.ghost_name ≡ places.entry.ghost_name }
@@ -48,7 +52,7 @@ impl<'a, T: Copy> Filling<'a, T> {
     pub fn extend_from_slice(&mut self, items: &[T]) -> Result<(), Full>
         ensures { MatchResult result (λ _. Added self.old self.new items.now) (λ _. (HasRoom self.old (length items.now) → ⊥) × (self.new ≡ self.old)) }
     {
-        if self.filled > self.places.len() || items.len() > self.places.len() - self.filled {
+        if items.len() > self.places.len() - self.filled {
             return Err(Full);
         }
         let end = self.filled + items.len();

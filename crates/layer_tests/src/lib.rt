@@ -8,9 +8,9 @@ mod tests {
     use layers::{BanLayer, LayerFault, MAX_BANS};
     use overlay::overlaid;
     use plant::{Condition, Plant, Row};
-    use refusal::Layer;
+    use refusal::{Layer, Refusal};
     use rules::Rule;
-    use samples::{refused, step, table_of};
+    use samples::{step, table_of};
     use std::alloc::Global;
     use std::process::Abort;
     use std::test::Fail;
@@ -91,7 +91,7 @@ mod tests {
         let too_many = LayerFault::TooManyBans;
         assert_eq!(rt; fault(&plant, &[NOT_ON; 17]), Some(too_many));
         assert_eq!(rt; fault(&plant, &[BEYOND; 17]), Some(too_many));
-        assert_eq!(rt; too_many.refusal(), refused(13, 16, Layer::Plant));
+        assert_eq!(rt; too_many.refusal(), Refusal::new(13, 16, Layer::Plant));
         // The plant below is as it was.
         assert!(rt; plant.is_safe(1, 1));
         Ok(())
@@ -110,7 +110,7 @@ mod tests {
             fault(&plant, &[BEYOND; 16]),
             Some(LayerFault::BanBeyond { index: 0 })
         );
-        assert_eq!(rt; third.refusal(), refused(12, 2, Layer::Plant));
+        assert_eq!(rt; third.refusal(), Refusal::new(12, 2, Layer::Plant));
         Ok(())
     }
 

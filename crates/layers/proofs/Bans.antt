@@ -1,23 +1,20 @@
 -- Bans in words: when one is true of a pair, and when its masks lie within the letters. Assumes nothing.
-use Rattle.std.proofs.Common.{Some, None, Option, get_or, length, ◌≡◌, ℕ, ◌+◌, ◌-◌, ◌^◌, ◌<◌, ◌≤◌, Bool, true, false, not, ltb, List, [], ◌∷◌, Decides, sym, refl, ◌∙◌, subst, inl, inr, ⊎_elim}
+use Rattle.std.proofs.Common.{get_or, ◌≡◌, ℕ, ◌+◌, ◌-◌, ◌^◌, ◌<◌, ◌≤◌, Bool, true, false, not, ltb, List, [], ◌∷◌, Decides, sym, refl, ◌∙◌, subst, inl, inr, ⊎_elim}
 use mathlib.Core.List.Memᴰ
 use mathlib.Core.List.{Memᴰ}
-use Rattle.std.proofs.lemmas.Bool.{and_parts, and_from, and_cases, both_ways, cases_lt, cond-true, cond-false, lt-ltb, le-ltb, ltb-true, ltb-false, not-true, not_from_false}
+use Rattle.std.proofs.lemmas.Bool.{and_parts, and_from, and_cases, both_ways, false_from_ne_true, cases_lt, cond-true, cond-false, lt-ltb, le-ltb, ltb-true, ltb-false, not-true, not_from_false}
 use Rattle.plant.specs.Bits.{bit}
 use Rattle.plant.specs.Conditions.{holds, pair_word}
+use Rattle.plant.specs.Entries.{ban_fits}
 use Rattle.plant.specs.Meaning.{Meaning, Within}
-use Rattle.std.specs.List.{list_all, list_any, position_or_len}
-use Rattle.std.specs.Option.{MatchOption}
-use mathlib.Core.Bool.{cond}
+use Rattle.std.specs.List.{list_all, list_any}
 use Rattle.plant.specs.Tests.{FirstMisfit}
-use Rattle.plant.proofs.Firsts.{first_misfit}
 use Rattle.plant.specs.declared.condition.Condition.{Condition}
 use Rattle.plant.proofs.Bits.{bit_beyond, bit_under, bit_over, bit_from}
-use Rattle.plant.proofs.Bounded.{false_when_not}
 use Rattle.plant.proofs.Conditions.{holds_decides}
 use Rattle.plant.proofs.Tests.{some_decides}
 use Rattle.layers.specs.Banned.{banned_meaning, BannedWords}
-use Rattle.layers.specs.Bans.{letter, TrueOf, Beyond, AllWithin, FirstBeyond, ban_fits}
+use Rattle.layers.specs.Bans.{letter, TrueOf, Beyond, AllWithin, FirstBeyond}
 
 -- the letters of a pair are the bits of its word
 word_letter : (b s a i : ℕ) → s < 2 ^ b → bit (pair_word b s a) i ≡ letter b s a i
@@ -61,18 +58,13 @@ all_within b n (x ∷ xs) all ban here =
     let parts = and_parts (ban_fits b n x) (list_all (ban_fits b n) xs) all in
     ⊎_elim (λ is. fits_within b n ban (subst (λ (y : Condition). ban_fits b n y ≡ true) (sym is) parts.0)) (λ later. all_within b n xs parts.1 ban later) (Memᴰ.cases_cons here)
 
--- what `position` answers, asked for the first ban that does not fit
-pub first_beyond : (b n : ℕ) (bans : List Condition) (r : Option ℕ) → r ≡ cond (ltb (position_or_len (λ ban. not (ban_fits b n ban)) bans) (length bans)) (Some (position_or_len (λ ban. not (ban_fits b n ban)) bans)) None
-    → MatchOption r (AllWithin b n bans) (λ i. FirstBeyond b n bans i)
-first_beyond b n bans r e = of_answer r (first_misfit (ban_fits b n) bans r e)
-  where
-    of_answer : (r : Option ℕ) → MatchOption r (list_all (ban_fits b n) bans ≡ true) (λ i. FirstMisfit (ban_fits b n) bans i) → MatchOption r (AllWithin b n bans) (λ i. FirstBeyond b n bans i)
-    of_answer None all = all_within b n bans all
-    of_answer (Some i) first = record {
-      inside = first.inside;
-      beyond = λ d. misfit_beyond b n (get_or bans i d) (first.fails d);
-      first = λ k d lt. fits_within b n (get_or bans k d) (first.first k d lt);
-    }
+-- the first ban that does not fit is the first with a letter past the sizes
+pub first_beyond : (b n : ℕ) (bans : List Condition) (i : ℕ) → FirstMisfit (ban_fits b n) bans i → FirstBeyond b n bans i
+first_beyond b n bans i first = record {
+  inside = first.inside;
+  beyond = λ d. misfit_beyond b n (get_or bans i d) (first.fails d);
+  first = λ k d lt. fits_within b n (get_or bans k d) (first.first k d lt);
+}
 
 module _ (m : Meaning) (within : Within m) (bans : List Condition) where
   -- some ban of the list is true of the pair
@@ -87,7 +79,7 @@ module _ (m : Meaning) (within : Within m) (bans : List Condition) where
             (parts.0, λ ban here is. both_ways _ (not-true _ parts.1) (some.1 (ban, here, (true_decides m.bits ban s a (within.safe_state s a parts.0)).1 is))),
         λ h.
             and_from _ _ h.0
-            (not_from_false _ (false_when_not _ some (λ w. h.1 w.0 w.1 ((true_decides m.bits w.0 s a (within.safe_state s a h.0)).0 w.2)))),
+            (not_from_false _ (false_from_ne_true _ (λ e. let w = some.0 e in h.1 w.0 w.1 ((true_decides m.bits w.0 s a (within.safe_state s a h.0)).0 w.2)))),
       )
 
   pub banned_words : BannedWords m bans (banned_meaning m bans)

@@ -1,18 +1,11 @@
 -- Bans laid over bans are all of them laid at once. Assumes nothing.
-use Rattle.std.proofs.Common.{◌≡◌, ℕ, Bool, true, false, not, ◌&&◌, ◌||◌, List, [], ◌∷◌, ◌++◌, sym, refl, ap, ◌∙◌}
+use Rattle.std.proofs.Common.{◌≡◌, ℕ, Bool, true, false, not, ◌&&◌, ◌||◌, List, ◌++◌, sym, refl, ap, ◌∙◌}
+use Rattle.std.proofs.lemmas.List.Folds.{list_any-append}
 use Rattle.plant.specs.Conditions.{holds, pair_word}
 use Rattle.plant.specs.Meaning.{Meaning}
 use Rattle.std.specs.List.{list_any}
 use Rattle.plant.specs.declared.condition.Condition.{Condition}
 use Rattle.layers.specs.Banned.{banned_meaning}
-
-pub some_joined : {X : Type 0} (p : X → Bool) (xs ys : List X) → list_any p (xs ++ ys) ≡ (list_any p xs || list_any p ys)
-some_joined p [] ys = refl
-some_joined p (x ∷ xs) ys = ap (λ b. p x || b) (some_joined p xs ys) ∙ or_assoc (p x) (list_any p xs) (list_any p ys)
-  where
-    or_assoc : (x y z : Bool) → (x || (y || z)) ≡ ((x || y) || z)
-    or_assoc true y z = refl
-    or_assoc false y z = refl
 
 neither : (safe x y : Bool) → ((safe && not x) && not y) ≡ (safe && not (x || y))
 neither true true y = refl
@@ -31,7 +24,7 @@ twice base lower upper = λ i. record {
     same : (s a : ℕ) → (banned_meaning (banned_meaning base lower) upper).safe s a ≡ (banned_meaning base (lower ++ upper)).safe s a
     same s a =
         let p : Condition → Bool = λ ban. holds ban (pair_word base.bits s a) in
-        neither (base.safe s a) (list_any p lower) (list_any p upper) ∙ ap (λ b. base.safe s a && not b) (sym (some_joined p lower upper))
+        neither (base.safe s a) (list_any p lower) (list_any p upper) ∙ ap (λ b. base.safe s a && not b) (sym (list_any-append p lower upper))
 
 pub over_bans : (m : Meaning) (bans : List Condition) (base : Meaning) (lower : List Condition) → m ≡ banned_meaning base lower → banned_meaning m bans ≡ banned_meaning base (lower ++ bans)
 over_bans m bans base lower is = ap (λ k. banned_meaning k bans) is ∙ twice base lower bans

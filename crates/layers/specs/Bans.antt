@@ -1,5 +1,5 @@
 -- Bans over the letters of a pair: the state bits first, then the lines. Assumes nothing.
-use Rattle.std.specs.Prelude.{◌≡◌, ℕ, ◌+◌, ◌-◌, ◌^◌, ◌<◌, ◌≤◌, Bool, true, false, cond, ◌&&◌, ◌⊎◌, List, length, nat_lt, slice_index_or}
+use Rattle.std.specs.Prelude.{◌≡◌, ℕ, ◌+◌, ◌-◌, ◌<◌, ◌≤◌, Bool, true, false, cond, ◌⊎◌, List, length, nat_lt, slice_index_or}
 use mathlib.Core.List.{Memᴰ}
 use Rattle.plant.specs.Bits.{bit}
 use Rattle.plant.specs.declared.condition.Condition.{Condition}
@@ -30,7 +30,3 @@ pub record FirstBeyond (b n : ℕ) (bans : List Condition) (i : ℕ) : Type 0 wh
   pub inside : i < length bans
   pub beyond : (d : Condition) → Beyond b n (slice_index_or bans i d)
   pub first : (k : ℕ) (d : Condition) → k < i → Beyond b n (slice_index_or bans k d) → ⊥
-
--- whether both masks lie within the letters, as a test that computes
-abbrev pub ban_fits : ℕ → ℕ → Condition → Bool
-ban_fits b n ban = nat_lt ban.ones (2 ^ (b + n)) && nat_lt ban.zeros (2 ^ (b + n))

@@ -2,19 +2,19 @@
 ghost use Rattle.std.specs.Prelude.{◌≡◌, MatchResult};
 ghost use Rattle.layers.specs.Outcome.{Laid, TurnedAway};
 
-use crate::ban::first_beyond;
 use crate::fault::LayerFault;
 use crate::layer::{BanLayer, MAX_BANS};
-use plant::{Condition, Plant};
+use plant::{Condition, Plant, first_misfit};
 
 // Whether the bans may be laid over the plant: one too many is told first, then the first with a letter past the state bits and lines.
+// A function apart: its proof file says what follows in words, and the caller needs none.
 fn check<P: Plant>(below: &P, bans: &[Condition]) -> Result<(), LayerFault>
     ensures { MatchResult result (λ _. Laid (P.meaning below.now) bans.now) (λ f. TurnedAway (P.meaning below.now) bans.now f) }
 {
     if bans.len() > MAX_BANS {
         return Err(LayerFault::TooManyBans);
     }
-    if let Some(index) = first_beyond(bans, below.sizes()) {
+    if let Some(index) = first_misfit(bans, below.sizes()) {
         return Err(LayerFault::BanBeyond { index });
     }
     Ok(())

@@ -15,7 +15,7 @@ pub enum LayerFault {
 
 impl LayerFault {
     // The fault's number, place and layer.
-    // A method and no `From`: of some faults there is no refusal, and one name asks all of them.
+    // No `From`: want of memory has no refusal, and one spelling serves every fault.
     pub fn refusal(&self) -> Refusal
         ensures { result ≡ layer_refusal self.now }
     {
@@ -23,11 +23,6 @@ impl LayerFault {
             LayerFault::TooManyBans => (13, MAX_BANS),
             LayerFault::BanBeyond { index } => (12, *index),
         };
-        let layer = Layer::Plant;
-        Refusal {
-            number,
-            place,
-            layer,
-        }
+        Refusal::new(number, place, Layer::Plant)
     }
 }

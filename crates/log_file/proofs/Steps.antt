@@ -1,5 +1,5 @@
 -- Running a log file, one record at a time. Assumes nothing.
-use Rattle.std.proofs.Common.{◌≡◌, ℕ, pred, ◌+◌, ◌≤◌, cond, List, length, is_ok, Some, None, Ok, Err, Result, ap, ◌∙◌, arith}
+use Rattle.std.proofs.Common.{◌≡◌, ℕ, pred, ◌+◌, ◌-◌, ◌≤◌, cond, List, length, is_ok, Some, None, Ok, Err, Result, ap, ◌∙◌, arith}
 use Rattle.plant.specs.Meaning.{Meaning}
 use Rattle.records.specs.Running.{Next, over}
 use Rattle.records.specs.declared.BytesFault.{BytesFault}
@@ -21,6 +21,10 @@ use Rattle.log_file.specs.declared.fault.LogFileFault.TheVariants.{Bytes, Refuse
 -- every record takes a byte at least
 pub call_some : (c : Call) → 1 ≤ length (call_bytes c)
 call_some c = grind arith
+
+-- a record fewer for each call taken is enough, since each took a byte
+pub enough_left : (n at taken : ℕ) → taken ≤ at → n ≤ at + (n - taken)
+enough_left n at taken few = omega arith
 
 module _ (m : Meaning) (rs : List Rule) (bytes : List ℕ) where
   abbrev step : Progress → ℕ → Next Progress Ends

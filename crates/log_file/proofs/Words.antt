@@ -14,7 +14,7 @@ use Rattle.reader.specs.declared.phase.Phase.{Phase}
 use Rattle.reader.proofs.Strings.{answers_push, phase_push}
 use Rattle.log_file.specs.Encoding.{log_kinds, end_code, call_bytes, calls_bytes}
 use Rattle.log_file.specs.Outcome.{CallThere, EntryInWords, Taken, Over, TurnedAway, RanInWords, Ran}
-use Rattle.log_file.specs.Running.{Progress, Ends, entry_at, run_answered, run_entry, run_from, run_log}
+use Rattle.log_file.specs.Running.{Progress, Ends, entry_at, run_answered, run_entry, run_log}
 use Rattle.log_file.specs.declared.entry.Made.{Made}
 use Rattle.log_file.specs.declared.fault.LogFileFault.{LogFileFault}
 use Rattle.log_file.proofs.Entries.{entry_words}
@@ -106,6 +106,6 @@ module _ (m : Meaning) (rs : List Rule) (before : Phase) (bytes : List ℕ) wher
     };
   }
 
-  -- for an answer and a phase that are those computed from the start on
-  pub ran : (now_at : Phase) (r : Result ℕ LogFileFault) (start : ℕ) → record { answer = r; phase = now_at } ≡ run_from m rs bytes (length bytes) (record { phase = before; taken = 0 }) start → start ≡ 0 → Ran m rs before now_at bytes r
-  ran now_at r start is zero = subst (λ (e : Ends). Ran m rs before e.phase bytes e.answer) (sym (is ∙ ap (run_from m rs bytes (length bytes) (record { phase = before; taken = 0 })) zero)) ran_log
+  -- for an answer and a phase that are those computed
+  pub ran : (now_at : Phase) (r : Result ℕ LogFileFault) → record { answer = r; phase = now_at } ≡ run_log m rs before bytes → Ran m rs before now_at bytes r
+  ran now_at r is = subst (λ (e : Ends). Ran m rs before e.phase bytes e.answer) (sym is) ran_log

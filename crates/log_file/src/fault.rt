@@ -19,7 +19,7 @@ pub enum LogFileFault {
 
 impl LogFileFault {
     // The fault's number, place and layer: those of the fault inside.
-    // A method and no `From`: of some faults there is no refusal, and one name asks all of them.
+    // No `From`: want of memory has no refusal, and one spelling serves every fault.
     pub fn refusal(&self) -> Refusal
         ensures { result ≡ log_file_refusal self.now }
     {

@@ -1,8 +1,8 @@
 // Running a log file on a reader.
-ghost use Rattle.std.specs.Prelude.{◌≡◌, length};
+ghost use Rattle.std.specs.Prelude.{◌≡◌};
 ghost use Rattle.reader.specs.Step.{answer, after};
 ghost use Rattle.log_file.specs.Outcome.{Ran};
-ghost use Rattle.log_file.specs.Running.{call_made, run_from};
+ghost use Rattle.log_file.specs.Running.{call_made};
 
 use crate::entry::entry_at;
 use crate::fault::LogFileFault;
@@ -25,27 +25,6 @@ fn make_call<P: Plant>(
         .map_err(|fault| LogFileFault::Refused { offset, fault })
 }
 
-// Makes the calls of the records from `start` on, up to the first that is turned away. The number of calls taken.
-fn run_entries<P: Plant>(
-    reader: &mut Reader,
-    ruled: &RuledPlant<'_, P>,
-    bytes: &[u8],
-    start: usize,
-) -> Result<usize, LogFileFault>
-    ensures computed { record { answer = result; phase = reader.new.phase } ≡ run_from (P.meaning ruled.now.plant.now) ruled.now.rules.now bytes.now (length bytes.now) (record { phase = reader.old.phase; taken = 0 }) start }
-    ensures ran { start ≡ 0 → Ran (P.meaning ruled.now.plant.now) ruled.now.rules.now reader.old.phase reader.new.phase bytes.now result }
-{
-    let mut at = start;
-    let mut taken = 0;
-    // A cursor and no iterator: only a record says where the next begins, so an iterator would hold this cursor itself.
-    while let Some(made) = entry_at(bytes, at)? {
-        make_call(reader, ruled, made.call, at)?;
-        taken += 1;
-        at = made.end;
-    }
-    Ok(taken)
-}
-
 // Runs a log file on the reader, record by record, up to the first call that is turned away or the first fault
 // of the bytes. The number of calls taken; the reader stays after the last of them.
 pub fn run_log<P: Plant>(
@@ -55,5 +34,13 @@ pub fn run_log<P: Plant>(
 ) -> Result<usize, LogFileFault>
     ensures { Ran (P.meaning ruled.now.plant.now) ruled.now.rules.now reader.old.phase reader.new.phase bytes.now result }
 {
-    run_entries(reader, ruled, bytes, 0)
+    let mut at = 0;
+    let mut taken = 0;
+    // A cursor and no iterator: only a record says where the next begins, so an iterator would hold this cursor itself.
+    while let Some(made) = entry_at(bytes, at)? {
+        make_call(reader, ruled, made.call, at)?;
+        taken += 1;
+        at = made.end;
+    }
+    Ok(taken)
 }

@@ -9,7 +9,7 @@ use Rattle.draft.specs.Rows.{open_in, rows_of}
 use Rattle.draft.proofs.Largest.{rows_filled}
 use Rattle.layers.specs.Banned.{banned_meaning}
 use Rattle.layers.specs.Sound.{banned_within}
-use Rattle.layers.proofs.Stacked.{some_joined}
+use Rattle.std.proofs.lemmas.List.Folds.{list_any-append}
 use Rattle.overlay.specs.Together.{WithinEach, SmallerTogether}
 
 module _ (m : Meaning) (within : Within m) where
@@ -30,7 +30,7 @@ module _ (m : Meaning) (within : Within m) where
     parts = and_parts (m.safe s a) (not (list_any here (first ++ second))) safe
 
     none : (list_any here first ≡ false) × (list_any here second ≡ false)
-    none = or_parts (list_any here first) (list_any here second) (sym (some_joined here first second) ∙ not-true (list_any here (first ++ second)) parts.1)
+    none = or_parts (list_any here first) (list_any here second) (sym (list_any-append here first second) ∙ not-true (list_any here (first ++ second)) parts.1)
 
     safe_under_first : (banned_meaning m first).safe s a ≡ true
     safe_under_first = and_from (m.safe s a) _ parts.0 (not_from_false _ none.0)

@@ -5,11 +5,11 @@ use lib.Bits.{bit_and, bit_or}
 use mathlib.Core.List.Memᴰ
 use mathlib.Core.List.{Memᴰ}
 use Rattle.std.proofs.lemmas.Nat.{and_le_r, or_lt}
-use Rattle.std.proofs.lemmas.Bool.{and_parts, and_from, or_cases, or_left, or_right, eqb-true, eq-eqb, both_ways, not-true, not_from_false, cases_Bool}
+use Rattle.std.proofs.lemmas.Bool.{and_parts, and_from, or_cases, or_left, or_right, eqb-true, eq-eqb, both_ways, false_from_ne_true, not-true, not_from_false, cases_Bool}
 use Rattle.plant.specs.Bits.{bit}
 use Rattle.std.specs.List.{list_any}
 use Rattle.plant.proofs.Bits.{bit_of_and, bit_of_or, no_bits, same_bits, below_pow}
-use Rattle.plant.proofs.Bounded.{same_tests, false_when_not}
+use Rattle.plant.proofs.Bounded.{same_tests}
 use Rattle.plant.proofs.Tests.{same_decides, some_decides}
 use Rattle.records.specs.Reading.{Record, record_at}
 use Rattle.records.specs.declared.BytesFault.{BytesFault}
@@ -75,7 +75,7 @@ module _ (c d : Clause) where
         (λ i _. bit_of_and ones zeros i ∙ same_tests _ _ (λ both. let p = and_parts (bit ones i) (bit zeros i) both in absurd (both_ways (bit w i) (off_in h i p.1) (on_in h i p.0))) (λ e. absurd (both_ways _ (no_bits i) e))) in
         and_from _ _
         (and_from _ _ (eq-eqb _ _ h.letter)
-        (not_from_false _ (false_when_not _ (same_decides c.value d.value) h.opposite)))
+        (not_from_false _ (false_from_ne_true _ (λ e. h.opposite ((same_decides c.value d.value).0 e)))))
         (eq-eqb _ _ none),
   )
     where

@@ -2,13 +2,13 @@
 use Rattle.std.proofs.Common.{◌≡◌, ℕ, ◌^◌, ◌<◌, Bool, true, false, cond, not, ◌&&◌, eqb, ltb, List, [], ◌∷◌, Decides, sym, refl, ap, ◌∙◌, subst, ⊎_elim}
 use mathlib.Core.List.Memᴰ
 use mathlib.Core.List.{Memᴰ}
-use Rattle.std.proofs.lemmas.Bool.{and_parts, and_from, or_cases, or_left, or_right, eqb-true, eq-eqb, both_ways, cases_Bool, not-true, not_from_false, lt-ltb, cond-true}
+use Rattle.std.proofs.lemmas.Bool.{and_parts, and_from, or_cases, or_left, or_right, eqb-true, eq-eqb, both_ways, false_from_ne_true, cases_Bool, not-true, not_from_false, lt-ltb, cond-true}
 use Rattle.plant.specs.Bits.{bit}
 use Rattle.plant.specs.Tests.{same}
 use Rattle.std.specs.List.{filter, fold, list_all}
 use Rattle.plant.specs.declared.condition.Condition.{Condition}
 use Rattle.plant.proofs.Bits.{bit_of_or, bit_power, no_bits}
-use Rattle.plant.proofs.Bounded.{decides_all, decides_any, false_when_not}
+use Rattle.plant.proofs.Bounded.{decides_all, decides_any}
 use Rattle.plant.proofs.Conditions.{holds_decides}
 use Rattle.plant.proofs.Tests.{same_decides, some_decides}
 use Rattle.plant.specs.Conditions.{holds, Holds}
@@ -153,7 +153,7 @@ module _ (p : Parts) (small : SmallLetters p.nexts) where
             both_ways (banned p w) (not-true (banned p w) e) (and_from (fits_word p w) _ (f.1 fit) (s.1 (ban, here, (holds_decides ban w).1 h))),
         λ none.
             not_from_false (banned p w)
-            (false_when_not (banned p w) ((λ e. e), (λ e. e))
+            (false_from_ne_true (banned p w)
             (λ e. let parts = and_parts (fits_word p w) _ e in let b = s.0 parts.1 in none (f.0 parts.0) b.0 b.1 ((holds_decides b.0 w).0 b.2))),
       )
 

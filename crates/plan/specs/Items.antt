@@ -1,5 +1,6 @@
 -- What the record at an offset says, and whether it is in order. Assumes nothing.
-use Rattle.std.specs.Prelude.{ℕ, ◌+◌, ◌*◌, ◌^◌, Bool, false, cond, not, ◌&&◌, ◌||◌, List, ◌==◌, bit_and, bit_or, nat_le, nat_lt, slice_index}
+use Rattle.std.specs.Prelude.{ℕ, ◌+◌, ◌*◌, Bool, false, cond, not, ◌&&◌, ◌||◌, List, ◌==◌, bit_and, bit_or, nat_le, nat_lt, slice_index}
+use Rattle.plant.specs.Conditions.{masks_below}
 use Rattle.plant.specs.Tests.{same}
 use Rattle.plan.specs.declared.clause.Clause.{Clause}
 use Rattle.plant.specs.declared.condition.Condition.{Condition}
@@ -29,10 +30,6 @@ clause_at bs o code =
 -- the letter is of the sort that the kind wants: a state bit, or an auxiliary (04)
 abbrev pub letter_fits : ℕ → ℕ → ℕ → ℕ → ℕ → Bool
 letter_fits b n m code l = cond (code == 4) (nat_le (b + n) l && nat_lt l (b + n + m)) (nat_lt l b)
-
--- no mask of the condition has a letter beyond the k there are
-abbrev pub masks_below : ℕ → Condition → Bool
-masks_below k c = nat_lt c.ones (2 ^ k) && nat_lt c.zeros (2 ^ k)
 
 -- letter, value and masks are in order
 abbrev pub item_fits : ℕ → ℕ → ℕ → List ℕ → ℕ → ℕ → Bool

@@ -1,6 +1,7 @@
 -- The code of each kind of record, and what a record says. Assumes nothing.
 use Rattle.std.specs.Prelude.{◌≡◌, ℕ, ◌+◌, Bool, true, false, ◌&&◌, ◌||◌, List, ◌==◌}
-use Rattle.plan.specs.Items.{clause_at, item_fits, letter_fits, masks_below}
+use Rattle.plan.specs.Items.{clause_at, item_fits, letter_fits}
+use Rattle.plant.specs.Conditions.{masks_below}
 use Rattle.plan.specs.declared.clause.Clause.{Clause}
 use Rattle.plan.specs.declared.item.Item.{Item}
 use Rattle.plan.specs.declared.item.Item.TheVariants.{Start as StartItem, Next as NextItem, Auxiliary as AuxiliaryItem, Ban as BanItem}

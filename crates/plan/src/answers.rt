@@ -39,7 +39,7 @@ impl Plan {
         requires assignment_is { x < 2 ^ self.now.sizes.auxiliaries }
         ensures { result ≡ extension (parts_of self.now) state setting x }
     {
-        let pair = state | setting << self.sizes.pair.state_bits();
+        let pair = self.sizes.pair.pair_word(state, setting);
         pair | x << self.sizes.first_auxiliary()
     }
 

@@ -29,7 +29,7 @@ pub enum PlanFault {
 
 impl PlanFault {
     // The fault's number, place and layer; want of memory has none.
-    // A method and no `From`: of some faults there is no refusal, and one name asks all of them.
+    // No `From`: want of memory has no refusal, and one spelling serves every fault.
     pub fn refusal(&self) -> Option<Refusal>
         ensures { result ≡ plan_refusal self.now }
     {
@@ -44,12 +44,7 @@ impl PlanFault {
             PlanFault::Clash { offset } => (9, *offset),
             PlanFault::Memory => return None,
         };
-        let layer = Layer::Plan;
-        Some(Refusal {
-            number,
-            place,
-            layer,
-        })
+        Some(Refusal::new(number, place, Layer::Plan))
     }
 }
 

@@ -21,7 +21,7 @@ fn reach(clauses: &[Clause], letter: u32, rounds: u32) -> u32
     ensures { result ≡ reached clauses.now rounds letter }
 {
     let mut found = gather(clauses, letter_mask(letter), 0);
-    // No chain: a fold over the rounds would carry beside the letters whether a round has found no more.
+    // No chain: a fold would run all of the rounds.
     for round in 0..rounds {
         let more = gather(clauses, found, found);
         if more == found {

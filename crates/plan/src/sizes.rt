@@ -1,6 +1,6 @@
 // The sizes of a plan.
 ghost use Rattle.std.specs.Prelude.{◌≡◌, ◌+◌, ◌^◌, ◌≤◌, false, MatchOption};
-ghost use Rattle.plan.specs.Items.{masks_below};
+ghost use Rattle.plant.specs.Conditions.{masks_below};
 ghost use Rattle.plan.specs.Sizes.{most_auxiliaries, sizes_fit};
 
 use plant::{Condition, Sizes};
@@ -55,7 +55,6 @@ impl PlanSizes {
     pub(crate) fn has_letters_of(&self, condition: Condition) -> bool
         ensures { result ≡ masks_below (self.now.pair.state_bits + self.now.pair.lines + self.now.auxiliaries) condition }
     {
-        let beyond = 1 << self.letters();
-        condition.ones < beyond && condition.zeros < beyond
+        condition.within(self.letters())
     }
 }

@@ -17,12 +17,17 @@ fn verdict(heap: Global, bytes: &[u8]) -> anyhow::Result<String> {
     }
 }
 
+// The bytes of the stored file with this name and ending.
+// Each program has its own: a public function needs a contract, and none can say what a file holds.
+fn stored(rt: &HostRuntime, name: &str, ending: &str) -> anyhow::Result<Vec<u8>> {
+    let path = format!(in rt.alloc(); "{name}.{ending}")?;
+    Ok(fs::read(rt, path.as_str())?)
+}
+
 // Whether the stored plan comes to what is expected.
 fn agrees(rt: &HostRuntime, name: &str, want: &str) -> anyhow::Result<bool> {
-    let heap = rt.alloc();
-    let path = format!(in heap; "{name}.plan")?;
-    let bytes = fs::read(rt, path.as_str())?;
-    let found = verdict(heap, bytes.as_slice())?;
+    let bytes = stored(rt, name, "plan")?;
+    let found = verdict(rt.alloc(), bytes.as_slice())?;
     if found.as_str() == want {
         return Ok(true);
     }

@@ -1,9 +1,10 @@
 -- Bits of numbers, over any width. Assumes nothing.
-use Rattle.std.proofs.Common.{◌≡◌, ℕ, zero, suc, ◌+◌, ◌-◌, ◌*◌, ◌/◌, ◌%◌, ◌^◌, ◌<◌, ◌≤◌, Bool, true, false, cond, ◌&&◌, ◌||◌, eqb, sym, refl, ap, ◌∙◌, subst, ap₂, ⊎_elim, add-zero, mod-lt, mod-eq_of_lt, mul_assoc, add_comm, pow-suc, zero-add, one-add, arith, pow_mono, pow-add}
-use native.Mathlib.Nat.{add-mul-mod_self_right, div-eq_of_lt, mod-one}
+use Rattle.std.proofs.Common.{◌≡◌, ℕ, zero, suc, ◌+◌, ◌-◌, ◌*◌, ◌/◌, ◌%◌, ◌^◌, ◌<◌, ◌≤◌, Bool, true, false, cond, ◌&&◌, ◌||◌, eqb, sym, refl, ap, ◌∙◌, subst, ap₂, ⊎_elim, add-zero, mod-lt, mod-eq_of_lt, pow-suc, zero-add, one-add, arith}
+use native.Mathlib.Nat.{mod-one}
 use lib.Arith.{digits_div}
 use lib.Bits.{bit_and, bit_or}
-use Rattle.std.proofs.lemmas.Nat.{field_of, mod_below, mod-pow-add, pow_below, pow_pos, or_shr, or_mod, and_shr, and_mod, shr_high, shr-shr, shr_split}
+use Rattle.std.proofs.lemmas.Nat.{field_of, mod_below, mod-pow-add, pow_below, pow_pos, or_shr, or_mod, and_shr, and_mod, shr-shr, shr_split}
+use Rattle.std.proofs.lemmas.Nat.Bits.{bit_at_above, bit_at_cat_low, bit_at_cat_high, same_from_bits_below}
 use Rattle.std.proofs.lemmas.Bool.{eqb-true, eqb-false, eq-eqb, ne_eqb, both_ways, cases_Bool, cases_eq, cases_lt}
 use Rattle.plant.specs.Bits.{bit, pack}
 use Rattle.plant.specs.Bounded.{any_below}
@@ -45,26 +46,15 @@ bit_low x i = ap (λ z. eqb (z % 2) 1) field ∙ ap (λ z. eqb z 1) twice
 
 -- a number has no bit past a power of two that it lies below
 pub bit_beyond : (x n i : ℕ) → x < 2 ^ n → n ≤ i → bit x i ≡ false
-bit_beyond x n i small past =
-    let none : x / 2 ^ i ≡ 0 = div-eq_of_lt (let p : 2 ^ n ≤ 2 ^ i = pow_mono past in omega arith) in
-    ap (λ z. eqb (z % 2) 1) none
+bit_beyond x n i small past = ap (λ z. eqb z 1) (bit_at_above x n i small past)
 
 -- what stands above bit n does not matter below it
 pub bit_under : (high n low i : ℕ) → i < n → bit (high * 2 ^ n + low) i ≡ bit low i
-bit_under high n low i lt =
-    let above : ℕ = n - suc i in
-    let split : 2 ^ n ≡ 2 ^ above * 2 ^ suc i = ap (λ k. 2 ^ k) (let q : n ≡ above + suc i = omega arith in q) ∙ pow-add 2 above (suc i) in
-    let whole : high * 2 ^ n ≡ (high * 2 ^ above) * 2 ^ suc i = ap (λ k. high * k) split ∙ sym (mul_assoc high (2 ^ above) (2 ^ suc i)) in
-    let same : (high * 2 ^ n + low) % 2 ^ suc i ≡ low % 2 ^ suc i =
-    ap (λ z. (z + low) % 2 ^ suc i) whole ∙ ap (λ z. z % 2 ^ suc i) (add_comm ((high * 2 ^ above) * 2 ^ suc i) low) ∙
-    add-mul-mod_self_right low (high * 2 ^ above) (2 ^ suc i) in
-    sym (bit_low (high * 2 ^ n + low) i) ∙ ap (λ z. bit z i) same ∙ bit_low low i
+bit_under high n low i lt = ap (λ z. eqb z 1) (bit_at_cat_low high n low i lt)
 
 -- nor does what stands below bit n matter from it on
 pub bit_over : (high n low i : ℕ) → low < 2 ^ n → n ≤ i → bit (high * 2 ^ n + low) i ≡ bit high (i - n)
-bit_over high n low i small past =
-    let place : n + (i - n) ≡ i = omega arith in
-    ap (λ k. bit (high * 2 ^ n + low) k) (sym place) ∙ ap (λ z. eqb (z % 2) 1) (sym (shr-shr (high * 2 ^ n + low) n (i - n)) ∙ ap (λ z. z / 2 ^ (i - n)) (shr_high high n low small))
+bit_over high n low i small past = ap (λ z. eqb z 1) (bit_at_cat_high high n low i small past)
 
 pub pack_small : (p : ℕ → Bool) (n : ℕ) → pack p n < 2 ^ n
 pack_small p zero = omega arith
@@ -152,8 +142,7 @@ pack_same p q (suc n) same = ap₂ (λ b r. cond b (2 ^ n) 0 + r) (same n (omega
 
 -- numbers below 2 ^ n with the same bits are the same
 pub same_bits : (x y n : ℕ) → x < 2 ^ n → y < 2 ^ n → ((i : ℕ) → i < n → bit x i ≡ bit y i) → x ≡ y
-same_bits x y n x_small y_small same =
-    sym (mod-eq_of_lt x_small) ∙ sym (pack_bits x n) ∙ pack_same (bit x) (bit y) n same ∙ pack_bits y n ∙ mod-eq_of_lt y_small
+same_bits x y n x_small y_small same = same_from_bits_below n x y x_small y_small (λ i lt. bit_digit x i ∙ ap digit (same i lt) ∙ sym (bit_digit y i))
 
 -- a number lies below a power of two
 pub below_pow : (n : ℕ) → n < 2 ^ n

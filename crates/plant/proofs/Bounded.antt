@@ -1,23 +1,17 @@
 -- Tests over the numbers below a bound, as statements about each of them. Assumes nothing.
-use Rattle.std.proofs.Common.{◌≡◌, ℕ, zero, suc, ◌+◌, ◌<◌, ◌≤◌, Bool, true, false, Decides, sym, refl, subst, ⊎_elim, arith}
+use Rattle.std.proofs.Common.{◌≡◌, ℕ, zero, suc, ◌+◌, ◌<◌, ◌≤◌, Bool, true, false, Decides, refl, subst, ⊎_elim, arith}
 use Rattle.std.specs.List.{list_all, list_any, range_with_len}
-use Rattle.std.proofs.lemmas.Bool.{and_from, and_parts, both_ways, cases_lt, or_cases, or_left, or_right, false≢true}
+use Rattle.std.proofs.lemmas.Bool.Decides.{same_from_decides}
+use Rattle.std.proofs.lemmas.Bool.{and_from, and_parts, both_ways, cases_lt, false_from_ne_true, or_cases, or_left, or_right, false≢true}
 use Rattle.plant.specs.Bounded.{all_below, any_below}
 
 -- a test decides that it is true
 pub decides_itself : (b : Bool) → Decides b (b ≡ true)
 decides_itself b = (λ e. e, λ e. e)
 
--- a test that decides a false statement is false
-pub false_when_not : {P : Type 0} (b : Bool) → Decides b P → (P → ⊥) → b ≡ false
-false_when_not true d no_P = absurd (no_P (d.0 refl))
-false_when_not false d no_P = refl
-
 -- two tests that imply one another are equal
 pub same_tests : (b c : Bool) → (b ≡ true → c ≡ true) → (c ≡ true → b ≡ true) → b ≡ c
-same_tests true c f g = sym (f refl)
-same_tests false true f g = g refl
-same_tests false false f g = refl
+same_tests b c f g = same_from_decides b c (f, g) (decides_itself c)
 
 -- the numbers from a on, so many of them
 decides_all_from : (p : ℕ → Bool) (a n : ℕ) → Decides (list_all p (range_with_len a n)) ((k : ℕ) → a ≤ k → k < a + n → p k ≡ true)
@@ -55,7 +49,7 @@ decides_any p n = (
 
 -- where p fails at every number below n, no number below n passes
 pub any_from_none : (p : ℕ → Bool) (n : ℕ) → ((k : ℕ) → k < n → p k ≡ false) → any_below p n ≡ false
-any_from_none p n none = false_when_not (any_below p n) (decides_any p n) (λ w. both_ways (p w.0) (none w.0 w.1) w.2)
+any_from_none p n none = false_from_ne_true (any_below p n) (λ e. let w = (decides_any p n).0 e in both_ways (p w.0) (none w.0 w.1) w.2)
 
 -- where p holds at a number below n, it holds at some
 pub any_from_one : (p : ℕ → Bool) (n k : ℕ) → k < n → p k ≡ true → any_below p n ≡ true
@@ -66,4 +60,4 @@ pub all_from_each : (p : ℕ → Bool) (n : ℕ) → ((k : ℕ) → k < n → p 
 all_from_each p n each = (decides_all p n).1 each
 
 pub all_from_one : (p : ℕ → Bool) (n k : ℕ) → k < n → p k ≡ false → all_below p n ≡ false
-all_from_one p n k lt fails = false_when_not (all_below p n) (decides_all p n) (λ each. both_ways (p k) fails (each k lt))
+all_from_one p n k lt fails = false_from_ne_true (all_below p n) (λ e. both_ways (p k) fails ((decides_all p n).0 e k lt))

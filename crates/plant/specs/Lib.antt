@@ -1,6 +1,7 @@
 pub mod Bits
 pub mod Bounded
 pub mod Conditions
+pub mod Entries
 pub mod Lasting
 pub mod Meaning
 pub mod Sizes

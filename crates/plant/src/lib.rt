@@ -6,11 +6,13 @@ ghost use Rattle.plant.specs.Meaning.{Meaning, Within};
 
 mod condition;
 mod digits;
+mod entry;
 mod lent;
 mod sizes;
 
 pub use condition::{Condition, some_holds};
 pub use digits::has_bit;
+pub use entry::{Entry, first_misfit};
 pub use lent::WrongLength;
 pub use sizes::{Sizes, sizes_fit};
 
@@ -65,16 +67,17 @@ pub trait Plant {
     }
 
     // The number of states.
+    // Places are `usize`, of which the library makes none from a `u32`: `as` loses nothing of a state or a setting.
     fn states(&self) -> u32
         ensures { result ≡ 2 ^ (meaning self.now).bits }
     {
-        1 << self.state_bits()
+        self.sizes().states()
     }
 
     // The number of settings.
     fn settings(&self) -> u32
         ensures { result ≡ 2 ^ (meaning self.now).lines }
     {
-        1 << self.lines()
+        self.sizes().settings()
     }
 }

@@ -1,5 +1,6 @@
 // The two sizes of a plant, and their limits.
-ghost use Rattle.std.specs.Prelude.{◌≡◌, ◌^◌, true, false, MatchOption};
+ghost use Rattle.std.specs.Prelude.{◌≡◌, ◌%◌, ◌^◌, true, false, MatchOption};
+ghost use Rattle.plant.specs.Conditions.{pair_word};
 ghost use Rattle.plant.specs.Sizes.{sizes_fit};
 
 use crate::{MAX_LINES, MAX_STATE_BITS};
@@ -57,5 +58,14 @@ impl Sizes {
         ensures { result ≡ 2 ^ self.now.lines }
     {
         1 << self.lines
+    }
+
+    // The letters of a pair as one word: state bits lowest, then lines; of either number only the bits that are letters count.
+    pub fn pair_word(&self, state: u32, setting: u32) -> u32
+        ensures { result ≡ pair_word self.now.state_bits (state % 2 ^ self.now.state_bits) (setting % 2 ^ self.now.lines) }
+    {
+        let low = state % self.states();
+        let high = setting % self.settings();
+        low | high << self.state_bits
     }
 }

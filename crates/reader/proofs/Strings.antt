@@ -1,5 +1,5 @@
 -- Strings of calls, one call more at a time. Assumes nothing.
-use Rattle.std.proofs.Common.{◌≡◌, Bool, true, false, cond, List, [], ◌∷◌, ◌++◌, is_ok, sym, refl, ap, ◌∙◌}
+use Rattle.std.proofs.Common.{◌≡◌, suc, Bool, true, false, cond, List, [], ◌∷◌, ◌++◌, length, is_ok, sym, refl, ap, ◌∙◌}
 use Rattle.plant.specs.Meaning.{Meaning}
 use Rattle.rules.specs.declared.Rule.{Rule}
 use Rattle.reader.specs.Law.{Event, taken_calls, tells, told_from}
@@ -31,6 +31,11 @@ module _ (m : Meaning) (rs : List Rule) where
   pub phase_told : (calls : List Call) (p : Phase) → phase_after m rs p calls ≡ told_since p (session_from p calls)
   phase_told [] p = refl
   phase_told (c ∷ cs) p = phase_told cs (after m rs p c) ∙ sym (told_step p c (session_from (after m rs p c) cs))
+
+  -- every call is answered
+  pub answers_length : (calls : List Call) (p : Phase) → length (answers m rs p calls) ≡ length calls
+  answers_length [] p = refl
+  answers_length (c ∷ cs) p = ap suc (answers_length cs (after m rs p c))
 
   pub answers_push : (calls : List Call) (p : Phase) (c : Call) → answers m rs p (calls ++ (c ∷ [])) ≡ answers m rs p calls ++ (answer m rs (phase_after m rs p calls) c ∷ [])
   answers_push [] p c = refl

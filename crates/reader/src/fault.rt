@@ -21,7 +21,7 @@ pub enum LogFault {
 
 impl LogFault {
     // The fault's number, place and layer.
-    // A method and no `From`: of some faults there is no refusal, and one name asks all of them.
+    // No `From`: want of memory has no refusal, and one spelling serves every fault.
     pub fn refusal(&self) -> Refusal
         ensures { result ≡ log_refusal self.now }
     {
@@ -32,11 +32,6 @@ impl LogFault {
             LogFault::Misfit { setting } => (17, *setting as usize),
             LogFault::NotFollowing { state } => (18, *state as usize),
         };
-        let layer = Layer::Log;
-        Refusal {
-            number,
-            place,
-            layer,
-        }
+        Refusal::new(number, place, Layer::Log)
     }
 }

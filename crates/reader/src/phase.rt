@@ -16,6 +16,7 @@ pub enum Phase {
 
 impl Phase {
     // The phase as a place in a refusal: 0 closed, 1 poised, 2 driven.
+    // A number, since users see the place and look it up.
     pub fn place(&self) -> usize
         ensures { result ≡ phase_place self.now }
     {

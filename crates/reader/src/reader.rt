@@ -1,5 +1,6 @@
 // The reader of a session.
-ghost use Rattle.std.specs.Prelude.{◌≡◌, length};
+ghost use Rattle.std.specs.Prelude.{◌≡◌, [], ◌∷◌, length};
+ghost use Rattle.filling.specs.Adding.{Added, HasRoom};
 ghost use Rattle.plant.specs.Meaning.{states, settings};
 ghost use Rattle.reader.specs.Step.{answer, after, offered, fits_there};
 ghost use Rattle.reader.specs.Outcome.{Ran, Run};
@@ -10,6 +11,7 @@ ghost use Rattle.reader.specs.declared.phase.Phase.TheVariants.{Closed, Poised, 
 use crate::call::Call;
 use crate::fault::LogFault;
 use crate::phase::Phase;
+use filling::Filling;
 use plant::{Plant, WrongLength};
 use rules::RuledPlant;
 
@@ -70,6 +72,15 @@ pub fn seen<P: Plant>(plant: &P, state: u32, setting: u32, next: u32) -> Result<
     offered(plant.states(), next, follows, fault, poised)
 }
 
+// Writes one answer. There is a place for it, so it is not turned away;
+// by `?` the caller would hand on a fault that can not come.
+fn put(answers: &mut Filling<'_, Result<(), LogFault>>, answer: Result<(), LogFault>)
+    requires { HasRoom answers.old 1 }
+    ensures { Added answers.old answers.new (answer ∷ []) }
+{
+    let _ = answers.push(answer);
+}
+
 impl Reader {
     // A new reader is closed.
     pub fn new() -> Reader
@@ -87,6 +98,7 @@ impl Reader {
     }
 
     // One call: what it does depends on the phase and the call together.
+    // A `match` on a field and no type for each phase: one reader goes through any string of calls.
     pub fn make<P: Plant>(&mut self, ruled: &RuledPlant<'_, P>, call: Call) -> Result<(), LogFault>
         ensures answers { result ≡ answer (P.meaning ruled.now.plant.now) ruled.now.rules.now self.old.phase call }
         ensures moves { self.new.phase ≡ after (P.meaning ruled.now.plant.now) ruled.now.rules.now self.old.phase call }
@@ -105,6 +117,7 @@ impl Reader {
     }
 
     // A session begins: taken when closed and `state` is a start.
+    // This and the next three stand beside `make`, since `reader.begin(&ruled, 0)` reads plainer than the call as a value.
     pub fn begin<P: Plant>(&mut self, ruled: &RuledPlant<'_, P>, state: u32) -> Result<(), LogFault>
         ensures answers { result ≡ answer (P.meaning ruled.now.plant.now) ruled.now.rules.now self.old.phase (Begin state) }
         ensures moves { self.new.phase ≡ after (P.meaning ruled.now.plant.now) ruled.now.rules.now self.old.phase (Begin state) }
@@ -137,6 +150,7 @@ impl Reader {
     }
 
     // Makes each call in turn, and writes its answer at its place.
+    // A function apart: its proof file says what follows in words, and `run` needs none.
     fn answer_all<P: Plant>(
         &mut self,
         ruled: &RuledPlant<'_, P>,
@@ -146,14 +160,15 @@ impl Reader {
         requires { length calls.now ≡ length answers.old }
         ensures { Ran (P.meaning ruled.now.plant.now) ruled.now.rules.now self.old.phase self.new.phase calls.now answers.new }
     {
-        // By index: zipped with `answers.iter_mut()`, the proof of what the places hold afterwards did not close.
-        for (i, call) in calls.iter().enumerate() {
-            answers[i] = self.make(ruled, *call);
+        let mut filling = Filling::new(answers);
+        for call in calls {
+            put(&mut filling, self.make(ruled, *call));
         }
     }
 
     // Makes each call in turn, those after a refused one too, and writes its answer at its place.
     // Where there is not a place for each answer, no call is made.
+    // By a rule of the project all memory is lent: no heap, so no `Vec` of answers.
     pub fn run<P: Plant>(
         &mut self,
         ruled: &RuledPlant<'_, P>,

@@ -7,9 +7,9 @@ mod tests {
     use draft::draft;
     use plant::{Row, WrongLength};
     use reader::{Call, LogFault, Phase, Reader};
-    use refusal::Layer;
+    use refusal::{Layer, Refusal};
     use rules::{Rule, RuledPlant};
-    use samples::{refused, rule, step, table_of};
+    use samples::{rule, step, table_of};
     use std::alloc::Global;
     use std::process::Abort;
     use std::test::Fail;
@@ -37,7 +37,7 @@ mod tests {
         table(heap, &[step(0, 0, 1), step(1, 0, 0), step(1, 1, 1)])
     }
 
-    // Makes at most four calls on a new reader, and compares the last answer and the phase after it.
+    // Makes the calls on a new reader, and compares the last answer and the phase after it.
     fn last<R: Abort + AllocGlobal>(
         rt: &R,
         rules: &[Rule],
@@ -51,11 +51,9 @@ mod tests {
             rules,
         };
         let mut reader = Reader::new();
-        let mut answers: [Result<(), LogFault>; 4] = [Ok(()); 4];
-        assert!(rt; 0 < calls.len() && calls.len() <= 4);
-        let places = &mut answers[0..calls.len()];
-        assert_eq!(rt; reader.run(&ruled, calls, places), Ok(()));
-        assert_eq!(rt; answers[calls.len() - 1], answer);
+        let mut answers = vec![in rt.alloc(); Ok(()); calls.len()]?;
+        assert_eq!(rt; reader.run(&ruled, calls, &mut answers), Ok(()));
+        assert_eq!(rt; answers.last(), Some(&answer));
         assert_eq!(rt; reader.phase(), phase);
         Ok(())
     }
@@ -253,7 +251,7 @@ mod tests {
             (LogFault::NotFollowing { state: 5 }, 18, 5),
         ];
         for (fault, number, place) in cases {
-            assert_eq!(rt; fault.refusal(), refused(number, place, Layer::Log));
+            assert_eq!(rt; fault.refusal(), Refusal::new(number, place, Layer::Log));
         }
     }
 }

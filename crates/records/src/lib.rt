@@ -48,7 +48,7 @@ pub enum BytesFault {
 
 impl BytesFault {
     // The fault's number, place and layer.
-    // A method and no `From`: of some faults there is no refusal, and one name asks all of them.
+    // No `From`: want of memory has no refusal, and one spelling serves every fault.
     pub fn refusal(&self) -> Refusal
         ensures { result ≡ bytes_refusal self.now }
     {
@@ -57,12 +57,7 @@ impl BytesFault {
             BytesFault::UnknownKind { offset } => (2, *offset),
             BytesFault::AfterEnd { offset } => (7, *offset),
         };
-        let layer = Layer::Bytes;
-        Refusal {
-            number,
-            place,
-            layer,
-        }
+        Refusal::new(number, place, Layer::Bytes)
     }
 }
 

@@ -2,7 +2,7 @@
 #![tactic(auto)]
 
 ghost use Rattle.std.specs.Prelude.{◌≡◌, Some};
-ghost use Rattle.refusal.specs.Shown.{layer_word, refusal_line};
+ghost use Rattle.refusal.specs.Shown.{layer_word, refusal, refusal_line};
 
 use std::fmt;
 
@@ -50,6 +50,19 @@ pub struct Refusal {
     pub number: u32,
     pub place: usize,
     pub layer: Layer,
+}
+
+impl Refusal {
+    // The refusal with this number and place in this layer.
+    pub fn new(number: u32, place: usize, layer: Layer) -> Refusal
+        ensures { result ≡ refusal number place layer }
+    {
+        Refusal {
+            number,
+            place,
+            layer,
+        }
+    }
 }
 
 impl fmt::Display for Refusal {

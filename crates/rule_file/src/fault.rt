@@ -22,7 +22,7 @@ pub enum RuleFileFault {
 
 impl RuleFileFault {
     // The fault's number, place and layer.
-    // A method and no `From`: of some faults there is no refusal, and one name asks all of them.
+    // No `From`: want of memory has no refusal, and one spelling serves every fault.
     pub fn refusal(&self) -> Refusal
         ensures { result ≡ rule_file_refusal self.now }
     {
@@ -33,12 +33,7 @@ impl RuleFileFault {
             RuleFileFault::ListFull { offset } => (11, *offset),
             RuleFileFault::FileRoom { needed } => (11, *needed),
         };
-        let layer = Layer::Rules;
-        Refusal {
-            number,
-            place,
-            layer,
-        }
+        Refusal::new(number, place, Layer::Rules)
     }
 }
 

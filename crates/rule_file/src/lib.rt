@@ -4,6 +4,7 @@
 mod fault;
 mod kind;
 mod order;
+mod places;
 mod reading;
 mod writing;
 

@@ -20,6 +20,7 @@ pub(crate) fn rule_at(bytes: &[u8], offset: usize) -> Rule
 }
 
 // Whether `first` comes before `second`: by state, then line, then prefix.
+// By hand: a derived order would read the value too.
 fn comes_before(first: Rule, second: Rule) -> bool
     ensures { result ≡ before first second }
 {

@@ -7,6 +7,8 @@ ghost use Rattle.rule_file.specs.Reading.{rule_at, read_records, counted};
 use crate::fault::RuleFileFault;
 use crate::kind::RuleFileKind;
 use crate::order::{rule_at, stands_next};
+use crate::places::put;
+use filling::Filling;
 use plant::Sizes;
 use records::{ends_at, record_at};
 use rules::Rule;
@@ -50,13 +52,14 @@ fn fill(bytes: &[u8], list: &mut [Rule], count: usize)
     requires few { count ≤ length list.old }
     ensures { list.new ≡ map (λ i. rule_at bytes.now (5 * i)) (range_with_len 0 count) ++ drop count list.old }
 {
-    // No `zip` with `chunks_exact`: after a loop over an adapter of `iter_mut` a proof knows nothing of the places.
-    for (i, place) in list[..count].iter_mut().enumerate() {
-        *place = rule_at(bytes, RULE_LENGTH * i);
+    let mut filling = Filling::new(list);
+    for record in bytes[..RULE_LENGTH * count].chunks_exact(RULE_LENGTH) {
+        put(&mut filling, &[rule_at(record, 0)]);
     }
 }
 
 // The whole file is gone through first, and then the list is filled.
+// A function apart: its proof file says what follows in words, and `read_rules` needs none.
 fn read_into(sizes: Sizes, bytes: &[u8], list: &mut [Rule]) -> Result<usize, RuleFileFault>
     ensures { Read sizes.state_bits sizes.lines bytes.now list.old list.new result }
 {
@@ -67,6 +70,7 @@ fn read_into(sizes: Sizes, bytes: &[u8], list: &mut [Rule]) -> Result<usize, Rul
 
 // Reads a rule file for a plant of these sizes into the first places of the list. The number of rules.
 // Where the file is turned away, the list is as it was.
+// By a rule of the project the list is lent: no heap, so no `Vec` of rules.
 // Two numbers and no `Sizes`, since sizes out of their limits are one of the refusals.
 #[tactic(auto, using(crate::proofs::Outcomes::read_sizes))]
 pub fn read_rules(

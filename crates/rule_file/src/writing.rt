@@ -1,11 +1,13 @@
 // Writing a rule file.
-ghost use Rattle.std.specs.Prelude.{◌≡◌, ◌+◌, ◌≤◌, ◌++◌, length, take, drop, IfOk};
+ghost use Rattle.std.specs.Prelude.{◌≡◌, ◌≤◌, ◌++◌, length, drop, IfOk};
 ghost use Rattle.rule_file.specs.Encoding.{rule_bytes, rules_bytes};
 ghost use Rattle.rule_file.specs.Outcome.{Written};
 
 use crate::fault::RuleFileFault;
 use crate::kind::RuleFileKind;
+use crate::places::put;
 use crate::reading::RULE_LENGTH;
+use filling::Filling;
 use rules::Rule;
 
 // How many bytes the file of the list has.
@@ -29,29 +31,22 @@ fn rule_record(rule: &Rule) -> [u8; RULE_LENGTH]
     ]
 }
 
-// Writes the record of the rule from `at` on.
-fn put_rule(file: &mut [u8], at: usize, rule: &Rule)
-    requires { at + 5 ≤ length file.old }
-    ensures { file.new ≡ take at file.old ++ (rule_bytes rule.now ++ drop (at + 5) file.old) }
-{
-    file[at..at + RULE_LENGTH].copy_from_slice(&rule_record(rule));
-}
-
 // Writes the file of the list to the first bytes.
 #[tactic(auto, using(crate::proofs::Records::file_length))]
 fn put_rules(file: &mut [u8], list: &[Rule])
     requires { length (rules_bytes list.now) ≤ length file.old }
     ensures { file.new ≡ rules_bytes list.now ++ drop (length (rules_bytes list.now)) file.old }
 {
-    // By places and no `chunks_exact_mut`, after which a proof knows nothing of the bytes that were written.
-    for (i, rule) in list.iter().enumerate() {
-        put_rule(file, RULE_LENGTH * i, rule);
+    let mut filling = Filling::new(file);
+    for rule in list {
+        put(&mut filling, &rule_record(rule));
     }
-    file[RULE_LENGTH * list.len()] = RuleFileKind::End as u8;
+    put(&mut filling, &[RuleFileKind::End as u8]);
 }
 
 // Writes the file of any list of rules to the first bytes lent. The file's length.
 // Where the bytes do not suffice, they are as they were.
+// By a rule of the project the bytes are lent: no heap, so no `Vec` of bytes.
 pub fn write_rules(list: &[Rule], file: &mut [u8]) -> Result<usize, RuleFileFault>
     ensures outcome { Written list.now file.old file.new result }
     ensures within { IfOk result (λ k. k ≤ length file.new) }

@@ -3,9 +3,9 @@ use Rattle.std.proofs.Common.{◌≡◌, ℕ, zero, suc, ◌-◌, ◌*◌, ◌^�
 use mathlib.Core.List.Memᴰ
 use mathlib.Core.List.{Memᴰ}
 use Rattle.std.proofs.lemmas.List.{get_or_append_left, get_or-append_right}
-use Rattle.std.proofs.lemmas.Bool.{and_parts, and_from, eqb-true, eq-eqb, cases_eq, cases_lt, both_ways, true≢false, false≢true}
+use Rattle.std.proofs.lemmas.Bool.{and_parts, and_from, eqb-true, eq-eqb, cases_eq, cases_lt, both_ways, false_from_ne_true, true≢false, false≢true}
 use Rattle.plant.specs.Bits.{bit}
-use Rattle.plant.proofs.Bounded.{decides_any, false_when_not}
+use Rattle.plant.proofs.Bounded.{decides_any}
 use Rattle.rules.specs.Listing.{goes_on, concat_below, some_open, rule_at, rules_of_line, rules_of_state, rules_of, SomeOpen, Stands, Before, ListsStanding}
 use Rattle.rules.specs.declared.Rule.{Rule}
 use Rattle.plant.proofs.Tests.{same_decides}
@@ -180,7 +180,7 @@ module _ (n : ℕ) (rows : List ℕ) where
       let v = r.value in
       chosen_has (some_open n (get_or rows s 0) j p true) (some_open n (get_or rows s 0) j p false) s j p v
       ((way_decides s j p v).1 st.one_way)
-      (false_when_not _ (way_decides s j p (not v)) st.not_other)
+      (false_from_ne_true _ (λ e. st.not_other ((way_decides s j p (not v)).0 e)))
 
   abbrev of_line : ℕ → ℕ → List Rule
   of_line s j = rules_of_line n (get_or rows s 0) s j

@@ -70,6 +70,7 @@ impl Rule {
 }
 
 // Whether the setting breaks none of the rules in this state.
+// A function apart: its proof file says what follows in words, and the caller needs none.
 fn breaks_none(sizes: Sizes, rules: &[Rule], state: u32, setting: u32) -> bool
     ensures value { result ≡ fits sizes.state_bits sizes.lines rules.now state setting }
     ensures in_words { Decides result (Fits sizes.state_bits sizes.lines rules.now state setting) }

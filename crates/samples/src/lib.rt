@@ -1,12 +1,10 @@
-// Bench tables of slices, and short forms of moves, rules and refusals, for programs and tests.
+// Bench tables of slices, and short forms of moves and rules, for programs and tests.
 #![tactic(auto)]
 
 ghost use Rattle.std.specs.Prelude.{◌≡◌, IfOk};
 ghost use Rattle.bench.specs.Outcome.{Built};
-ghost use Rattle.refusal.specs.Shown.{refusal};
 
 use bench::{BenchTable, Move, TableFault};
-use refusal::{Layer, Refusal};
 use rules::Rule;
 use std::alloc::{AllocError, Global};
 
@@ -60,17 +58,6 @@ pub fn rule(state: u8, line: u8, prefix: u8, value: bool) -> Rule
         line,
         prefix,
         value,
-    }
-}
-
-// The refusal with this number and place in this layer.
-pub fn refused(number: u32, place: usize, layer: Layer) -> Refusal
-    ensures { result ≡ refusal number place layer }
-{
-    Refusal {
-        number,
-        place,
-        layer,
     }
 }
 

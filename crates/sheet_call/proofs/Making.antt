@@ -3,12 +3,11 @@ use Rattle.std.proofs.Common.{◌≡◌, ℕ, ◌<◌, ◌≤◌, ◌≢◌, Boo
 use Rattle.std.specs.Option.{MatchOption}
 use Rattle.std.specs.Array.{IsFirstChunk, IsWholeChunk}
 use Rattle.std.proofs.lemmas.List.{append_assoc, drop-append-le, length-append, length-take-le, take-append-drop, take-append-le, take_at}
-use Rattle.std.proofs.lemmas.Bool.{and_parts, and_from, both_ways, cases_lt, eqb-true, eq-eqb}
+use Rattle.std.proofs.lemmas.Bool.{and_parts, and_from, both_ways, false_from_ne_true, cases_lt, eqb-true, eq-eqb}
 use Rattle.plant.specs.Meaning.{Meaning, Within, states, settings}
 use Rattle.plant.specs.Lasting.{Open}
 use Rattle.plant.proofs.Assignments.{largest_open}
 use Rattle.plant.proofs.Bits.{bit_beyond}
-use Rattle.plant.proofs.Bounded.{decides_itself, false_when_not}
 use Rattle.plant.proofs.Firsts.{first_below}
 use Rattle.plant.specs.Bits.{bit}
 use Rattle.rules.specs.Listing.{rules_of}
@@ -61,7 +60,7 @@ none_lost m rows starts =
     let lost : ℕ → Bool = λ t. m.start t && eqb (get_or rows t 0) 0 in
     found_none lost (states m)
     (λ k lt.
-    false_when_not (lost k) (decides_itself _)
+    false_from_ne_true (lost k)
     (λ e.
     let parts = and_parts (m.start k) (eqb (get_or rows k 0) 0) e in
     let w = starts k parts.0 in
@@ -74,7 +73,7 @@ one_lost m within rows t lost =
     found_some test (states m) t (within.start_state t lost.start)
     (and_from (m.start t) _ lost.start (eq-eqb _ _ lost.empty))
     (λ k lt.
-    false_when_not (test k) (decides_itself _)
+    false_from_ne_true (test k)
     (λ e. let parts = and_parts (m.start k) (eqb (get_or rows k 0) 0) e in lost.lowest k lt parts.0 (eqb-true _ _ parts.1)))
     (lost_start m rows) (first_below test (states m))
 
@@ -132,7 +131,7 @@ shows_open m within rows filled text is = record {
   decided = decides;
   ones = λ s a o.
       place s a (within.safe_state s a o.0) (within.safe_setting s a o.0) ∙ ap digit ((decides s a).1 o);
-  zeros = λ s a s_lt a_lt no. place s a s_lt a_lt ∙ ap digit (false_when_not (open_in rows s a) (decides s a) no);
+  zeros = λ s a s_lt a_lt no. place s a s_lt a_lt ∙ ap digit (false_from_ne_true (open_in rows s a) (λ e. no ((decides s a).0 e)));
 }
   where
     decides : (s a : ℕ) → Decides (open_in rows s a) (Open m s a)

@@ -23,7 +23,7 @@ pub enum SheetFault {
 
 impl SheetFault {
     // The fault's number, place and layer; want of memory has none.
-    // A method and no `From`: of some faults there is no refusal, and one name asks all of them.
+    // No `From`: want of memory has no refusal, and one spelling serves every fault.
     pub fn refusal(&self) -> Option<Refusal>
         ensures { result ≡ sheet_refusal self.now }
     {
@@ -34,11 +34,7 @@ impl SheetFault {
             SheetFault::Plan(fault) => return fault.refusal(),
             SheetFault::Draft(fault) => return Some(fault.refusal()),
         };
-        Some(Refusal {
-            number: 11,
-            place: needed,
-            layer: Layer::Draft,
-        })
+        Some(Refusal::new(11, needed, Layer::Draft))
     }
 }
 

@@ -82,6 +82,7 @@ fn unmade(fault: SheetFault) -> Sheet
 }
 
 // Reads the plan, drafts it into the first rows and the first places for rules, and writes the sheet, or why there is none.
+// By a rule of the project text, rows and rules are lent, so that only the plan takes memory.
 pub fn make_sheet(
     heap: Global,
     bytes: &[u8],

@@ -13,7 +13,8 @@ use itoa::Buffer;
 use plant::{Row, has_bit};
 use refusal::Refusal;
 
-// Writes the bytes. There is room for them, so they are not turned away.
+// Writes the bytes. There is room for them, so they are not turned away;
+// by `?` each caller would hand on a fault that can not come.
 fn put(page: &mut Filling<'_, u8>, bytes: &[u8])
     requires { HasRoom page.old (length bytes.now) }
     ensures { Added page.old page.new bytes.now }
@@ -77,6 +78,7 @@ pub(crate) fn put_lines(text: &mut [u8; TEXT_LENGTH], rows: &[Row], settings: u3
 }
 
 // Writes the line of a refusal from the first byte on. Its length.
+// Beside `Display`, since `write!` does not promise that it succeeds.
 pub(crate) fn put_refusal(text: &mut [u8; TEXT_LENGTH], refusal: Refusal) -> usize
     ensures { Wrote text.old text.new 0 result (refusal_text refusal) }
 {

@@ -7,9 +7,9 @@ mod tests {
     use plan::PlanFault;
     use plant::Row;
     use records::BytesFault;
-    use refusal::Layer;
+    use refusal::{Layer, Refusal};
     use rules::Rule;
-    use samples::{refused, rule};
+    use samples::rule;
     use sheet_call::{Sheet, SheetFault, make_sheet};
     use std::process::Abort;
     use std::test::Fail;
@@ -98,9 +98,7 @@ mod tests {
 
         fn check_text(&self, rt: &impl Abort, length: usize, want: &str) {
             assert_eq!(rt; length, want.len());
-            for (found, byte) in self.text.iter().zip(want.bytes()) {
-                assert_eq!(rt; *found, byte);
-            }
+            assert!(rt; self.text.starts_with(want.as_bytes()));
         }
     }
 
@@ -143,7 +141,10 @@ mod tests {
             rules: Err(fault),
         };
         assert_eq!(rt; sheet, want);
-        assert_eq!(rt; fault.refusal(), Some(refused(11, place, Layer::Draft)));
+        assert_eq!(rt;
+            fault.refusal(),
+            Some(Refusal::new(11, place, Layer::Draft))
+        );
         desk.check_kept(rt, NOTHING);
         Ok(())
     }

@@ -4,11 +4,10 @@
 #[cfg(test)]
 mod tests {
     use bench::BenchTable;
-    use either_stand::Stand;
     use reader::{Call, LogFault, Phase, Reader};
     use rules::{Rule, RuledPlant};
     use samples::{rule, step, table_of};
-    use stands::{AwaitsSetting, NotTaken};
+    use stands::{AwaitsSetting, NotTaken, Stand};
     use std::alloc::Global;
     use std::test::Fail;
 
@@ -41,30 +40,33 @@ mod tests {
         }
     }
 
-    fn begin(plant: &BenchTable, state: u32) -> Told {
+    // What a call on the first stand of a session in this state comes to; where the begin is refused, its fault.
+    fn begun<F: FnOnce(AwaitsSetting) -> Told>(plant: &BenchTable, state: u32, call: F) -> Told
+        requires { F.IsAlwaysCallable call }
+    {
         match AwaitsSetting::begin(plant, state) {
-            Ok(poised) => ended(Ok(()), poised),
+            Ok(poised) => call(poised),
             Err(fault) => (Err(fault), Phase::Closed),
         }
+    }
+
+    fn begin(plant: &BenchTable, state: u32) -> Told {
+        begun(plant, state, |poised| ended(Ok(()), poised))
     }
 
     // A set in state 0.
     fn set(plant: &BenchTable, rules: &[Rule], setting: u32) -> Told {
-        match AwaitsSetting::begin(plant, 0) {
-            Ok(poised) => after(poised.set(&RuledPlant { plant, rules }, setting)),
-            Err(fault) => (Err(fault), Phase::Closed),
-        }
+        let ruled = RuledPlant { plant, rules };
+        begun(plant, 0, |poised| after(poised.set(&ruled, setting)))
     }
 
     // A see in state 0 under the setting.
     fn see(plant: &BenchTable, setting: u32, state: u32) -> Told {
-        match AwaitsSetting::begin(plant, 0) {
-            Ok(poised) => match poised.set(&RuledPlant { plant, rules: &[] }, setting) {
-                Ok(driven) => after(driven.see(plant, state)),
-                Err(NotTaken { stand, fault }) => ended(Err(fault), stand),
-            },
-            Err(fault) => (Err(fault), Phase::Closed),
-        }
+        let free = RuledPlant { plant, rules: &[] };
+        begun(plant, 0, |poised| match poised.set(&free, setting) {
+            Ok(driven) => after(driven.see(plant, state)),
+            Err(NotTaken { stand, fault }) => ended(Err(fault), stand),
+        })
     }
 
     // What is suggested in state 0.

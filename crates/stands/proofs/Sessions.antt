@@ -20,7 +20,7 @@ use Rattle.rules.specs.declared.Rule.{Rule}
 use Rattle.stands.specs.Moves.{or_back}
 use Rattle.stands.specs.Sessions.{Held, nothing, for_setting, for_sighting, phase_of, Began, Moved, ByStand, ByStands, InTurn, Sessions, LawfulSessions}
 use Rattle.stands.specs.Suggestion.{LowestFit}
-use Rattle.stands.specs.declared.stand.AwaitsSetting.{AwaitsSetting}
+use Rattle.stands.specs.declared.either.AwaitsSetting.{AwaitsSetting}
 use Rattle.stands.proofs.Lowest.{lowest_fit}
 
 -- whether an answer says that the call was out of turn

@@ -5,9 +5,9 @@ use Rattle.reader.specs.Step.{fits_there, offered}
 use Rattle.reader.specs.declared.fault.LogFault.{LogFault}
 use Rattle.reader.specs.declared.fault.LogFault.TheVariants.{NoStart, Misfit, NotFollowing}
 use Rattle.rules.specs.declared.Rule.{Rule}
-use Rattle.stands.specs.declared.stand.AwaitsSetting.{AwaitsSetting}
-use Rattle.stands.specs.declared.stand.AwaitsSighting.{AwaitsSighting}
-use Rattle.stands.specs.declared.stand.NotTaken.{NotTaken}
+use Rattle.stands.specs.declared.either.AwaitsSetting.{AwaitsSetting}
+use Rattle.stands.specs.declared.either.AwaitsSighting.{AwaitsSighting}
+use Rattle.stands.specs.declared.either.NotTaken.{NotTaken}
 
 -- the next stand, or the same stand back with the fault
 abbrev pub or_back : {X Y : Type 0} → X → Result Y LogFault → Result Y (NotTaken X)

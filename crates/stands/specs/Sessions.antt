@@ -15,9 +15,9 @@ use Rattle.reader.specs.declared.phase.Phase.TheVariants.{Closed, Poised, Driven
 use Rattle.rules.specs.declared.Rule.{Rule}
 use Rattle.stands.specs.Moves.{first_stand, set_stand, seen_stand}
 use Rattle.stands.specs.Suggestion.{LowestFit}
-use Rattle.stands.specs.declared.stand.AwaitsSetting.{AwaitsSetting}
-use Rattle.stands.specs.declared.stand.AwaitsSighting.{AwaitsSighting}
-use Rattle.stands.specs.declared.stand.NotTaken.{NotTaken}
+use Rattle.stands.specs.declared.either.AwaitsSetting.{AwaitsSetting}
+use Rattle.stands.specs.declared.either.AwaitsSighting.{AwaitsSighting}
+use Rattle.stands.specs.declared.either.NotTaken.{NotTaken}
 
 -- what a session holds: no stand, or one of the two
 pub data Held : Type 0 where

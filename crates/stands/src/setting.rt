@@ -2,12 +2,12 @@
 ghost use Rattle.std.specs.Prelude.{◌≡◌, List};
 ghost use Rattle.reader.specs.Strings.{Faithful};
 ghost use Rattle.reader.specs.declared.call.Call.TheVariants.{Set};
-ghost use Rattle.reader.specs.declared.phase.Phase.TheVariants.{Closed, Poised};
+ghost use Rattle.reader.specs.declared.phase.Phase.TheVariants.{Poised};
 ghost use Rattle.rules.specs.declared.Rule.{Rule as DriveRule};
 ghost use Rattle.stands.specs.Moves.{first_stand, set_stand};
 ghost use Rattle.stands.specs.Sessions.{for_setting, for_sighting, AsRead, Sessions, LawfulSessions};
 
-use crate::stand::{AwaitsSetting, AwaitsSighting, NotTaken};
+use crate::either::{AwaitsSetting, AwaitsSighting, NotTaken, Stand};
 use plant::Plant;
 use reader::{LogFault, Phase, begun, driven};
 use rules::RuledPlant;
@@ -22,14 +22,6 @@ impl AwaitsSetting {
         begun(plant, state).map(|_| AwaitsSetting { state })
     }
 
-    // Where the session stands.
-    pub fn phase(&self) -> Phase
-        ensures { result ≡ Poised self.now.state }
-    {
-        let state = self.state;
-        Phase::Poised { state }
-    }
-
     // The setting is made: taken when it fits here.
     pub fn set<P: Plant>(
         self,
@@ -41,17 +33,24 @@ impl AwaitsSetting {
     {
         match driven(ruled, self.state, setting) {
             Ok(_) => {
+                // Taken apart: a stand that is not handed on can not be let go, by a rule of the project.
                 let AwaitsSetting { state } = self;
                 Ok(AwaitsSighting { state, setting })
             }
             Err(fault) => Err(NotTaken { stand: self, fault }),
         }
     }
+}
 
-    // The session ends.
-    pub fn close(self) -> Phase
-        ensures { result ≡ Closed }
-    {
+impl Stand for AwaitsSetting {
+    ghost stands_at = { λ x. Poised x.state };
+
+    fn phase(&self) -> Phase {
+        let state = self.state;
+        Phase::Poised { state }
+    }
+
+    fn close(self) -> Phase {
         let AwaitsSetting { state: _ } = self;
         Phase::Closed
     }

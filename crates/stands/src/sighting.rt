@@ -1,25 +1,16 @@
 // The stand that waits for a sighting.
 ghost use Rattle.std.specs.Prelude.{◌≡◌, List};
 ghost use Rattle.reader.specs.declared.call.Call.TheVariants.{See};
-ghost use Rattle.reader.specs.declared.phase.Phase.TheVariants.{Closed, Driven};
+ghost use Rattle.reader.specs.declared.phase.Phase.TheVariants.{Driven};
 ghost use Rattle.rules.specs.declared.Rule.{Rule as DriveRule};
 ghost use Rattle.stands.specs.Moves.{seen_stand};
 ghost use Rattle.stands.specs.Sessions.{for_setting, for_sighting, AsRead};
 
-use crate::stand::{AwaitsSetting, AwaitsSighting, NotTaken};
+use crate::either::{AwaitsSetting, AwaitsSighting, NotTaken, Stand};
 use plant::Plant;
 use reader::{Phase, seen};
 
 impl AwaitsSighting {
-    // Where the session stands.
-    pub fn phase(&self) -> Phase
-        ensures { result ≡ Driven self.now.state self.now.setting }
-    {
-        let state = self.state;
-        let setting = self.setting;
-        Phase::Driven { state, setting }
-    }
-
     // The machine is seen: taken when `next` follows the state under the setting.
     pub fn see<P: Plant>(
         self,
@@ -31,6 +22,7 @@ impl AwaitsSighting {
     {
         match seen(plant, self.state, self.setting, next) {
             Ok(_) => {
+                // Taken apart, as a setting's stand is.
                 let AwaitsSighting {
                     state: _,
                     setting: _,
@@ -40,11 +32,18 @@ impl AwaitsSighting {
             Err(fault) => Err(NotTaken { stand: self, fault }),
         }
     }
+}
 
-    // The session ends.
-    pub fn close(self) -> Phase
-        ensures { result ≡ Closed }
-    {
+impl Stand for AwaitsSighting {
+    ghost stands_at = { λ x. Driven x.state x.setting };
+
+    fn phase(&self) -> Phase {
+        let state = self.state;
+        let setting = self.setting;
+        Phase::Driven { state, setting }
+    }
+
+    fn close(self) -> Phase {
         let AwaitsSighting {
             state: _,
             setting: _,

@@ -5,11 +5,12 @@ ghost use Rattle.plant.specs.Meaning.{settings};
 ghost use Rattle.reader.specs.Step.{fits_there};
 ghost use Rattle.stands.specs.Suggestion.{LowestFit, NoneFits, Suggests};
 
-use crate::stand::AwaitsSetting;
+use crate::either::AwaitsSetting;
 use plant::Plant;
 use rules::RuledPlant;
 
 // The lowest setting that fits in this state.
+// A function apart: its proof file says what follows in words, and the caller needs none.
 fn lowest_fit<P: Plant>(ruled: &RuledPlant<'_, P>, state: u32) -> Option<u32>
     ensures value { result ≡ find (fits_there (P.meaning ruled.now.plant.now) ruled.now.rules.now state) (range_with_len 0 (settings (P.meaning ruled.now.plant.now))) }
     ensures in_words { MatchOption result (NoneFits (P.meaning ruled.now.plant.now) ruled.now.rules.now state) (λ a. LowestFit (P.meaning ruled.now.plant.now) ruled.now.rules.now state a) }

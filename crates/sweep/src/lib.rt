@@ -12,41 +12,50 @@ ghost use Rattle.sweep.specs.Outcome.{Flagged};
 
 use plant::{Plant, WrongLength};
 
-// Whether the flag of `state` is up; a state without a flag counts as down.
-fn is_up(held: &[bool], state: u32) -> bool
-    ensures { result ≡ held_in held.now state }
-{
-    held.get(state as usize).copied().unwrap_or(false)
+// A plant, and a flag for each of its states.
+#[derive(Drop)]
+pub struct FlaggedPlant<'a, P> {
+    pub plant: &'a P,
+    pub held: &'a [bool],
 }
 
-// Whether `next` can not follow `state` under `setting`, or has its flag up.
-// The plant is asked only where the flag is down.
-fn is_kept<P: Plant>(plant: &P, held: &[bool], state: u32, setting: u32, next: u32) -> bool
-    ensures { result ≡ (not ((P.meaning plant.now).follows state setting next) || held_in held.now next) }
-{
-    is_up(held, next) || !plant.follows(state, setting, next)
-}
+impl<P: Plant> FlaggedPlant<'_, P> {
+    // Whether the flag of `state` is up; a state without a flag counts as down.
+    fn is_up(&self, state: u32) -> bool
+        ensures { result ≡ held_in self.now.held.now state }
+    {
+        self.held.get(state as usize).copied().unwrap_or(false)
+    }
 
-// Whether `setting` leads from `state` only to states whose flag is up.
-fn leads_back<P: Plant>(plant: &P, held: &[bool], state: u32, setting: u32) -> bool
-    ensures { result ≡ all_below (λ t. not ((P.meaning plant.now).follows state setting t) || held_in held.now t) (states (P.meaning plant.now)) }
-{
-    (0..plant.states()).all(|next| is_kept(plant, held, state, setting, next))
-}
+    // Whether `next` can not follow `state` under `setting`, or has its flag up.
+    // The plant is asked only where the flag is down.
+    fn is_kept(&self, state: u32, setting: u32, next: u32) -> bool
+        ensures { result ≡ (not ((P.meaning self.now.plant.now).follows state setting next) || held_in self.now.held.now next) }
+    {
+        self.is_up(next) || !self.plant.follows(state, setting, next)
+    }
 
-// Whether `setting` is safe in `state` and leads only to states whose flag is up.
-pub fn pair_stays<P: Plant>(plant: &P, held: &[bool], state: u32, setting: u32) -> bool
-    ensures value { result ≡ stays (P.meaning plant.now) (held_in held.now) state setting }
-    ensures in_words { Decides result (Stays (P.meaning plant.now) (held_in held.now) state setting) }
-{
-    plant.is_safe(state, setting) && leads_back(plant, held, state, setting)
-}
+    // Whether `setting` leads from `state` only to states whose flag is up.
+    fn leads_back(&self, state: u32, setting: u32) -> bool
+        ensures { result ≡ all_below (λ t. not ((P.meaning self.now.plant.now).follows state setting t) || held_in self.now.held.now t) (states (P.meaning self.now.plant.now)) }
+    {
+        (0..self.plant.states()).all(|next| self.is_kept(state, setting, next))
+    }
 
-// Whether some setting of `state` is safe and leads only to states whose flag is up.
-fn state_stays<P: Plant>(plant: &P, held: &[bool], state: u32) -> bool
-    ensures { result ≡ can_stay (P.meaning plant.now) (held_in held.now) state }
-{
-    (0..plant.settings()).any(|a| pair_stays(plant, held, state, a))
+    // Whether `setting` is safe in `state` and leads only to states whose flag is up.
+    pub fn pair_stays(&self, state: u32, setting: u32) -> bool
+        ensures value { result ≡ stays (P.meaning self.now.plant.now) (held_in self.now.held.now) state setting }
+        ensures in_words { Decides result (Stays (P.meaning self.now.plant.now) (held_in self.now.held.now) state setting) }
+    {
+        self.plant.is_safe(state, setting) && self.leads_back(state, setting)
+    }
+
+    // Whether some setting of `state` is safe and leads only to states whose flag is up.
+    fn state_stays(&self, state: u32) -> bool
+        ensures { result ≡ can_stay (P.meaning self.now.plant.now) (held_in self.now.held.now) state }
+    {
+        (0..self.plant.settings()).any(|a| self.pair_stays(state, a))
+    }
 }
 
 // One sweep: lowers the flag of each state that can not stay among the flagged. Whether a flag fell.
@@ -55,9 +64,9 @@ fn sweep<P: Plant>(plant: &P, held: &mut [bool]) -> bool
     ensures { Swept (P.meaning plant.now) held.old held.new result }
 {
     let mut changed = false;
-    // Each turn reads all the flags and may lower one: an iterator can not lend both.
+    // Each turn reads all the flags and may lower one: neither an iterator nor one flagged plant can lend both.
     for s in 0..plant.states() {
-        if held[s as usize] && !state_stays(plant, held, s) {
+        if held[s as usize] && !(FlaggedPlant { plant, held }).state_stays(s) {
             held[s as usize] = false;
             changed = true;
         }

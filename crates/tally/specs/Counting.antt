@@ -1,5 +1,5 @@
 -- What a tally counts, and how it reads. Assumes nothing.
-use Rattle.std.specs.Prelude.{◌≡◌, ℕ, ◌+◌, ◌-◌, ◌^◌, min, Bool, cond, List, ◌++◌, codes, decimal, Ok, Result}
+use Rattle.std.specs.Prelude.{◌≡◌, ℕ, ◌+◌, ◌-◌, ◌^◌, min, Bool, cond, List, ◌++◌, codes, decimal, Ok, Err, Result}
 use Rattle.std.specs.List.{FoldsTo}
 use Rattle.tally.specs.declared.Tally.{Tally}
 
@@ -19,6 +19,10 @@ module _ {F X E : Type 0} (step : F → X → Result Bool E → F → Type 0) wh
   -- calls at xs in turn, the first one of f, gave the answers that are counted in t
   abbrev pub Tallies : F → List X → Tally → Type 0
   Tallies f xs t = (last : F) × FoldsTo CountsAnswer (f, no_cases) xs (last, t)
+
+  -- calls at xs in turn, the first one of f, answered yes or no, and the one after them, at x, gave the error
+  abbrev pub FailsAfter : F → List X → X → E → Type 0
+  FailsAfter f xs x e = (last : F) × (t : Tally) × FoldsTo CountsAnswer (f, no_cases) xs (last, t) × ((g : F) × step last x (Err e) g)
 
 -- "A of N"
 abbrev pub tally_words : Tally → List ℕ

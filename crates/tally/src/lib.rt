@@ -1,9 +1,9 @@
 // Counting the cases of a list at which a program agrees.
 #![tactic(auto)]
 
-ghost use Rattle.std.specs.Prelude.{◌≡◌, List, Some, IfOk, IfErr, Err};
-ghost use Rattle.std.specs.Iterator.{Drains, IsFinite};
-ghost use Rattle.tally.specs.Counting.{counted, tally_words, Tallies};
+ghost use Rattle.std.specs.Prelude.{◌≡◌, List, [], ◌∷◌, ◌++◌, Some, IfOk, IfErr};
+ghost use Rattle.std.specs.Iterator.{Drains, IsFinite, Yields};
+ghost use Rattle.tally.specs.Counting.{counted, tally_words, FailsAfter, Tallies};
 
 use std::fmt;
 
@@ -43,7 +43,7 @@ pub fn count_agreed<I: Iterator + Drop, E, F: FnMut(I::Item) -> Result<bool, E> 
     requires finite { IsFinite (I.remaining cases) }
     requires callable { F.IsAlwaysCallable agrees }
     ensures counted { IfOk result (λ t. (xs : List I.Item) × Drains I.next_gives cases xs × Tallies F.step agrees xs t) }
-    ensures failed { IfErr result (λ e. (f : F) × (x : I.Item) × (g : F) × F.step f x (Err e) g) }
+    ensures failed { IfErr result (λ e. (xs : List I.Item) × (x : I.Item) × FailsAfter F.step agrees xs x e × ((rest : I) × Yields I.next_gives cases (xs ++ (x ∷ [])) rest)) }
 {
     let mut tally = Tally { agreed: 0, all: 0 };
     for case in cases {

@@ -12,15 +12,15 @@ use Rattle.draft.proofs.rows.open_row.Goals as goal
 
 pub fold-requires-clause-callable : goal.fold-requires-clause-callable
 fold-requires-clause-callable g c =
-    let few = few_settings (g.P.Plant.meaning c.args.plant.now) (g.P.Plant.sound c.args.plant.now) in
+    let few = few_settings (g.P.Plant.meaning c.args.flagged.now.plant.now) (g.P.Plant.sound c.args.flagged.now.plant.now) in
     let small : c.settings.result ≤ 2 ^ 4 = omega arith in
     grind serving
 
 pub returns : goal.returns
 returns g c =
-    let m = g.P.Plant.meaning c.args.plant.now in
-    let opened = stays m (held_in c.args.held.now) c.args.state in
+    let m = g.P.Plant.meaning c.args.flagged.now.plant.now in
+    let opened = stays m (held_in c.args.flagged.now.held.now) c.args.state in
     fold_from_yields_List _ with_open _ _ c.fold.ensures.ran
     (YieldsList-from_filter _ opened (YieldsList-at c.filter.ensures.source (YieldsList-from_range 0 (settings m) (settings m) (cc) (omega arith))) c.filter.ensures.closure (λ x b q k. search (rules, tests)))
     (λ a x b q k. search (rules, tests))
-    ∙ packed opened 0 (settings m) (let few = few_settings m (g.P.Plant.sound c.args.plant.now) in omega arith) ∙ ap (pack opened) (zero-add (settings m))
+    ∙ packed opened 0 (settings m) (let few = few_settings m (g.P.Plant.sound c.args.flagged.now.plant.now) in omega arith) ∙ ap (pack opened) (zero-add (settings m))

@@ -6,5 +6,5 @@ use Rattle.draft.proofs.rows.write_rows.Goals as goal
 
 pub returns : goal.returns
 returns g c =
-    let m = g.P.Plant.meaning c.args.plant.now in
-    fill_by_all (row_from m c.args.held.now) c.loop-state.rows (states m) 0 (omega arith) (λ k lt. c.loop-state.invariant k (omega arith))
+    let m = g.P.Plant.meaning c.args.flagged.now.plant.now in
+    fill_by_all (row_from m c.args.flagged.now.held.now) c.loop-state.rows (states m) 0 (omega arith) (λ k lt. c.loop-state.invariant k (omega arith))

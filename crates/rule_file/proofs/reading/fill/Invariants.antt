@@ -1,8 +1,9 @@
-use Rattle.std.proofs.Common.{◌≡◌, ◌*◌, ◌++◌, map, drop}
-use Rattle.std.specs.List.{range_with_len}
-use Rattle.rule_file.specs.Reading.{rule_at}
+use Rattle.std.proofs.Common.{◌≡◌}
+use Rattle.std.specs.Slice.Iter.{chunks_exact_rest, chunks_exact_size}
+use Rattle.rule_file.proofs.Filling.{FilledUpTo}
 use Rattle.rule_file.proofs.reading.fill.Given as goal
 
--- the first i places are written, the others are as they were
-abbrev pub invariant-loop-i : goal.invariant-loop-i
-invariant-loop-i l = l.place-items ≡ map (λ k. rule_at l.bytes (5 * k)) (range_with_len 0 l.i) ++ drop l.i l.initial.place-items
+-- the rules of the records before this one are written
+abbrev pub invariant-loop-record : goal.invariant-loop-record
+invariant-loop-record l =
+    FilledUpTo l.bytes l.count l.initial.filling l.filling (chunks_exact_rest l.record-iterator) × (chunks_exact_size l.record-iterator ≡ 5)

@@ -1,6 +1,8 @@
-use Rattle.rule_file.proofs.Writes.{WrittenUpTo}
+use Rattle.std.proofs.Common.{take}
+use Rattle.filling.specs.Adding.{Added}
+use Rattle.rule_file.specs.Encoding.{records_bytes}
 use Rattle.rule_file.proofs.writing.put_rules.Given as goal
 
--- the records of the first i rules are written, the bytes after them are as they were
-abbrev pub invariant-loop-i : goal.invariant-loop-i
-invariant-loop-i l = WrittenUpTo l.list l.initial.file l.file l.i
+-- the records of the rules before this one are written
+abbrev pub invariant-loop-rule : goal.invariant-loop-rule
+invariant-loop-rule l = Added l.initial.filling l.filling (records_bytes (take l.rule-index l.list))

@@ -22,6 +22,6 @@ loop-prefix-preserved c =
     let here : Added c.loop-prefix.rules c.match-standing_rule.rules (parts p) =
     elim c.match-standing_rule.branch [
       | in-Some w ↦ subst₂ (λ after xs. Added c.loop-prefix.rules after xs) (sym w.rules-is) w.in-Some.ensures w.put.ensures
-      | in_default w ↦ subst₂ (λ after xs. Added c.loop-prefix.rules after xs) (sym w.rules-is) w.in_default.ensures (added_none c.loop-prefix.rules (let n = c.loop-prefix.invariant.within in let e = c.loop-prefix.invariant.size in omega arith))
+      | in_default w ↦ subst₂ (λ after xs. Added c.loop-prefix.rules after xs) (sym w.rules-is) w.in_default.ensures (added_none c.loop-prefix.rules)
     ] in
     added_next parts p c.loop-prefix.invariant here

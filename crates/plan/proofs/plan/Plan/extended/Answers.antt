@@ -1,7 +1,8 @@
-use Rattle.std.proofs.Common.{◌≡◌, ◌+◌, ◌*◌, ◌%◌, ◌^◌, ◌<◌, sym, ap, ◌∙◌, subst, ap₂, mul_comm, arith, pow-add}
+use Rattle.std.proofs.Common.{◌≡◌, ◌+◌, ◌*◌, ◌%◌, ◌^◌, ◌<◌, sym, ap, ◌∙◌, subst, ap₂, mul_comm, arith, pow-add, mod-eq_of_lt}
 use lib.Bits.{bit_or}
 use lib.Arith.{digits_lt}
 use Rattle.std.proofs.lemmas.Nat.{or_comm, or_shifted, shl_whole}
+use Rattle.plant.specs.Conditions.{pair_word}
 use Rattle.plant.proofs.Limits.{limits_from}
 use Rattle.plan.proofs.plan.Plan.extended.Goals as goal
 
@@ -17,11 +18,9 @@ returns c =
     let few = sizes.few in
     let s_small : s < 2 ^ b = c.requires.state_is in
     let a_small : a < 2 ^ n = c.requires.setting_is in
-    let middle : (a * 2 ^ b) % 2 ^ 32 ≡ a * 2 ^ b = shl_whole a n b 32 a_small (omega arith) in
     let upper : (x * 2 ^ (b + n)) % 2 ^ 32 ≡ x * 2 ^ (b + n) = shl_whole x sizes.auxiliaries (b + n) 32 c.requires.assignment_is (omega arith) in
-    let low : bit_or s (a * 2 ^ b) ≡ a * 2 ^ b + s = or_comm s (a * 2 ^ b) ∙ or_shifted a b s s_small in
+    let pair = c.pair_word-pair.ensures ∙ ap₂ (pair_word b) (mod-eq_of_lt s_small) (mod-eq_of_lt a_small) in
     let whole : 2 ^ n * 2 ^ b ≡ 2 ^ (b + n) = mul_comm (2 ^ n) (2 ^ b) ∙ sym (pow-add 2 b n) in
     let pair_small : a * 2 ^ b + s < 2 ^ (b + n) = subst (λ k. a * 2 ^ b + s < k) whole (digits_lt a_small s_small) in
-    ap₂ (λ k l. bit_or (bit_or s ((a * 2 ^ k) % 2 ^ 32)) ((x * 2 ^ l) % 2 ^ 32)) c.state_bits.ensures c.first_auxiliary.ensures ∙
-    ap₂ (λ p q. bit_or (bit_or s p) q) middle upper ∙ ap (λ p. bit_or p (x * 2 ^ (b + n))) low ∙
+    ap₂ (λ p l. bit_or p ((x * 2 ^ l) % 2 ^ 32)) pair c.first_auxiliary.ensures ∙ ap (bit_or (pair_word b s a)) upper ∙
     or_comm (a * 2 ^ b + s) (x * 2 ^ (b + n)) ∙ or_shifted x (b + n) (a * 2 ^ b + s) pair_small
