@@ -8,7 +8,7 @@ use rules::Rule;
 use std::alloc::{AllocError, Global};
 use std::fmt::Display;
 use std::{fmt, fs};
-use tally::count_agreed;
+use tally::Tally;
 
 // A list of rules as it is stored: the number of rules, and then each by its parts.
 #[derive(Clone, Copy)]
@@ -136,7 +136,10 @@ fn check_all<F: Fn(&HostRuntime, &str) -> anyhow::Result<bool> + Drop>(
     requires { F.IsAlwaysCallable agrees }
 {
     let list = fs::read_to_string(rt, list)?;
-    let tally = count_agreed(list.as_str().lines(), |line| agrees(rt, line))?;
+    let mut tally = Tally::default();
+    for line in list.as_str().lines() {
+        tally.count(agrees(rt, line)?);
+    }
     println!(rt; "{tally} {what} agreed")?;
     Ok(())
 }

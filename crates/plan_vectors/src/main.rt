@@ -4,7 +4,7 @@
 use plan::Plan;
 use std::alloc::Global;
 use std::fs;
-use tally::count_agreed;
+use tally::Tally;
 
 // What reading the bytes comes to, as a line of text.
 fn verdict(heap: Global, bytes: &[u8]) -> anyhow::Result<String> {
@@ -41,7 +41,10 @@ fn main(rt: HostRuntime) -> anyhow::Result<()> {
         .as_str()
         .lines()
         .filter_map(|line| line.split_once(' '));
-    let tally = count_agreed(cases, |(name, want)| agrees(&rt, name, want))?;
+    let mut tally = Tally::default();
+    for (name, want) in cases {
+        tally.count(agrees(&rt, name, want)?);
+    }
     println!(rt; "{tally} plans agreed")?;
     Ok(())
 }

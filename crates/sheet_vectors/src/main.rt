@@ -7,7 +7,7 @@ use rule_file::write_rules;
 use rules::Rule;
 use sheet_call::{ROW_COUNT, RULE_PLACES, TEXT_LENGTH, make_sheet};
 use std::fs;
-use tally::count_agreed;
+use tally::Tally;
 
 // The memory in which sheets are made, one after another.
 #[derive(Drop)]
@@ -70,7 +70,10 @@ fn main(rt: HostRuntime) -> anyhow::Result<()> {
         rules: [Rule::default(); RULE_PLACES],
     };
     let names = fs::read_to_string(&rt, "names.txt")?;
-    let tally = count_agreed(names.as_str().lines(), |name| agrees(&rt, &mut desk, name))?;
+    let mut tally = Tally::default();
+    for name in names.as_str().lines() {
+        tally.count(agrees(&rt, &mut desk, name)?);
+    }
     println!(rt; "{tally} plans agreed")?;
     Ok(())
 }
