@@ -51,11 +51,15 @@ impl Plan {
     }
 
     // Whether the word fits the auxiliary clauses and forces no bit against `next`.
+    // Of a word that does not fit the next clauses are not asked: there may be 255 such words to one that fits.
     fn does_allow(&self, word: u32, next: u32) -> bool
         ensures { result ≡ allows (parts_of self.now) next word }
     {
+        if !all_true(self.auxes.as_slice(), word) {
+            return false;
+        }
         let (ones, zeros) = forced_bits(self.nexts.as_slice(), word);
-        all_true(self.auxes.as_slice(), word) && Condition { ones, zeros }.holds(next)
+        Condition { ones, zeros }.holds(next)
     }
 
     // Whether no fitting extension of the pair makes a ban true.

@@ -59,12 +59,16 @@ impl Clause {
     }
 
     // Whether the two clauses are for one letter, have opposite values, and conditions that can be true together.
+    // The letter first: each clause that is read is compared with all before it, and most are for another letter.
     pub(crate) fn clashes(&self, other: &Clause) -> bool
         ensures { result ≡ clash self.now other.now }
     {
+        if self.letter != other.letter || self.value == other.value {
+            return false;
+        }
         let ones = self.condition.ones | other.condition.ones;
         let zeros = self.condition.zeros | other.condition.zeros;
-        self.letter == other.letter && self.value != other.value && ones & zeros == 0
+        ones & zeros == 0
     }
 }
 

@@ -40,12 +40,15 @@ fn offered(
 }
 
 // The phase after a begin of `state`, where no session is open.
+// Here and in the next two, plant and rules are asked only about a number within the sizes: their lists may be long.
 pub fn begun<P: Plant>(plant: &P, state: u32) -> Result<Phase, LogFault>
     ensures { result ≡ offered (states (P.meaning plant.now)) state ((P.meaning plant.now).start state) (NoStart state) (Poised state) }
 {
+    let states = plant.states();
+    let starts = state < states && plant.is_start(state);
     let fault = LogFault::NoStart { state };
     let next = Phase::Poised { state };
-    offered(plant.states(), state, plant.is_start(state), fault, next)
+    offered(states, state, starts, fault, next)
 }
 
 // The phase after `setting` was made in `state`.
@@ -56,20 +59,22 @@ pub fn driven<P: Plant>(
 ) -> Result<Phase, LogFault>
     ensures { result ≡ offered (settings (P.meaning ruled.now.plant.now)) setting (fits_there (P.meaning ruled.now.plant.now) ruled.now.rules.now state setting) (Misfit setting) (Driven state setting) }
 {
-    let fits = ruled.fits(state, setting);
+    let settings = ruled.plant.settings();
+    let fits = setting < settings && ruled.fits(state, setting);
     let fault = LogFault::Misfit { setting };
     let next = Phase::Driven { state, setting };
-    offered(ruled.plant.settings(), setting, fits, fault, next)
+    offered(settings, setting, fits, fault, next)
 }
 
 // The phase after the machine was seen in `next`, driven by `setting` in `state`.
 pub fn seen<P: Plant>(plant: &P, state: u32, setting: u32, next: u32) -> Result<Phase, LogFault>
     ensures { result ≡ offered (states (P.meaning plant.now)) next ((P.meaning plant.now).follows state setting next) (NotFollowing next) (Poised next) }
 {
-    let follows = plant.follows(state, setting, next);
+    let states = plant.states();
+    let follows = next < states && plant.follows(state, setting, next);
     let fault = LogFault::NotFollowing { state: next };
     let poised = Phase::Poised { state: next };
-    offered(plant.states(), next, follows, fault, poised)
+    offered(states, next, follows, fault, poised)
 }
 
 // Writes one answer. There is a place for it, so it is not turned away;
