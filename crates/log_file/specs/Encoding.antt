@@ -1,7 +1,7 @@
 -- A string of calls as bytes. Assumes nothing.
 use Rattle.std.specs.Prelude.{ℕ, cond, List, [], ◌∷◌, ◌++◌, ◌==◌}
 use Rattle.std.specs.List.{flat_map}
-use Rattle.records.specs.Reading.{Kind}
+use Rattle.records.specs.declared.among.Kind.{Kind}
 use Rattle.reader.specs.declared.call.Call.{Call}
 use Rattle.reader.specs.declared.call.Call.TheVariants.{Begin, Set, See, Close}
 

@@ -1,7 +1,8 @@
 -- What reading a plan comes to, as a function of its bytes. Assumes nothing.
 use Rattle.std.specs.Prelude.{ℕ, zero, suc, ◌+◌, ◌^◌, Bool, cond, ◌&&◌, List, [], ◌∷◌, ◌++◌, length, Some, None, Ok, Err, Option, Result, ◌==◌, nat_le, nat_lt}
 use Rattle.std.specs.List.{list_any}
-use Rattle.records.specs.Reading.{Kind, Record, record_at}
+use Rattle.records.specs.Reading.{Record, record_at}
+use Rattle.records.specs.declared.among.Kind.{Kind}
 use Rattle.records.specs.declared.BytesFault.{BytesFault}
 use Rattle.records.specs.declared.BytesFault.TheVariants.{Unfinished, AfterEnd}
 use Rattle.plan.specs.Items.{byte, clause_at, item_fits, clash}

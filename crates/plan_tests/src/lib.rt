@@ -5,7 +5,7 @@
 mod tests {
     use plan::{Plan, PlanFault};
     use plant::Plant;
-    use records::BytesFault;
+    use records::{BytesFault, Kind, Record, record_among};
     use std::process::Abort;
     use std::test::Fail;
     use worked::brake_plan;
@@ -228,5 +228,25 @@ mod tests {
         assert!(rt; plan.follows(1, 0, 0) && plan.follows(1, 0, 1) && plan.follows(0, 1, 1));
         assert!(rt; plan.is_start(0) && plan.is_start(1) && !plan.is_start(2));
         Ok(())
+    }
+
+    // Records of kinds that are a list: the first kind with the code counts.
+    #[test]
+    fn kinds_of_a_list(rt: HostRuntime) {
+        let kinds = [
+            Kind { code: 7, body: 2 },
+            Kind { code: 9, body: 0 },
+            Kind { code: 7, body: 1 },
+        ];
+        let bytes = [0, 7, 1, 2, 9];
+        let found = |kind: u8, offset: usize, end: usize| Ok(Record { offset, kind, end });
+        assert_eq!(rt; record_among(&bytes, &kinds, 1), found(7, 1, 4));
+        assert_eq!(rt; record_among(&bytes, &kinds, 4), found(9, 4, 5));
+        let unknown = BytesFault::UnknownKind { offset: 0 };
+        assert_eq!(rt; record_among(&bytes, &kinds, 0), Err(unknown));
+        let cut = BytesFault::Unfinished { offset: 1 };
+        assert_eq!(rt; record_among(&bytes[..3], &kinds, 1), Err(cut));
+        let past = BytesFault::Unfinished { offset: 5 };
+        assert_eq!(rt; record_among(&bytes, &kinds, 5), Err(past));
     }
 }

@@ -4,7 +4,8 @@ use Rattle.std.proofs.lemmas.List.{drop_more, length-append}
 use Rattle.std.proofs.lemmas.Bool.Decides.{nat_tests}
 use Rattle.records.specs.Damage.{Damaged}
 use Rattle.records.specs.Ending.{Ended}
-use Rattle.records.specs.Reading.{Kind, Record, body_length, record_at}
+use Rattle.records.specs.declared.among.Kind.{Kind}
+use Rattle.records.specs.Reading.{Record, body_length, record_at}
 use Rattle.records.specs.declared.BytesFault.{BytesFault}
 use Rattle.records.specs.declared.BytesFault.TheVariants.{Unfinished, UnknownKind, AfterEnd}
 use Rattle.records.proofs.Standing.{Standing, nothing, strange, short, whole, standing, byte_there}

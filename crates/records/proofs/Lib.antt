@@ -1,3 +1,4 @@
 pub mod Finding
+pub mod Listing
 pub mod Running
 pub mod Standing

@@ -1,8 +1,9 @@
 -- What is wrong with the bytes where a record should stand, in words. Assumes nothing.
 use Rattle.std.specs.Prelude.{◌≡◌, ℕ, ◌+◌, ◌<◌, ◌⊎◌, List, [], ◌∷◌, length, Some, None}
-use Rattle.records.specs.Reading.{Kind, body_length}
+use Rattle.records.specs.Reading.{body_length}
 use Rattle.records.specs.declared.BytesFault.{BytesFault}
 use Rattle.records.specs.declared.BytesFault.TheVariants.{Unfinished, UnknownKind, AfterEnd}
+use Rattle.records.specs.declared.among.Kind.{Kind}
 
 -- nothing is left, or a record of a known kind whose body is cut off
 abbrev pub CutOff : List Kind → List ℕ → Type 0

@@ -2,11 +2,7 @@
 use Rattle.std.specs.Prelude.{ℕ, ◌+◌, ◌-◌, cond, List, [], ◌∷◌, length, Some, None, Ok, Err, Option, Result, option_map, ◌==◌, nat_lt, slice_index}
 use Rattle.records.specs.declared.BytesFault.{BytesFault}
 use Rattle.records.specs.declared.BytesFault.TheVariants.{Unfinished, UnknownKind}
-
--- a kind of record by its code, and how many bytes its body has
-pub record Kind : Type 0 where
-  pub code : ℕ
-  pub body : ℕ
+use Rattle.records.specs.declared.among.Kind.{Kind}
 
 -- a record by the code of its kind: it begins at the offset, and its body lies before the end
 pub record Record : Type 0 where

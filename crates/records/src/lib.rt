@@ -1,18 +1,23 @@
 // Records: one byte of kind and a body whose length the kind fixes. Plans, rule files and log files are made of them.
 #![tactic(auto)]
 
-ghost use Rattle.std.specs.Prelude.{◌≡◌, ℕ, List, option_map, slice_index};
-ghost use Rattle.records.specs.Reading.{Kind, body_length, known, record_at};
+ghost use Rattle.std.specs.Prelude.{◌≡◌, ℕ, ◌+◌, ◌-◌, ◌<◌, cond, List, length, Ok, Err, nat_lt, option_map, slice_index};
+ghost use Rattle.records.specs.Reading.{body_length, known, record_at};
 ghost use Rattle.records.specs.Typed.{by_code};
 ghost use Rattle.records.specs.Faults.{bytes_refusal};
 ghost use Rattle.records.specs.Ending.{Ended};
+ghost use Rattle.records.specs.declared.BytesFault.TheVariants.{Unfinished};
+ghost use Rattle.records.specs.declared.among.Kind.{Kind as ListedKind};
 
+mod among;
+
+pub use among::{Kind, record_among};
 use refusal::{Layer, Refusal};
 
 // The kinds of record of one sort of file.
 pub trait FileKind: Copy {
     // The code of each kind, and how many bytes its body has.
-    ghost kinds: { List Kind };
+    ghost kinds: { List ListedKind };
 
     // The code of a kind.
     ghost code: { Self → ℕ };
@@ -68,6 +73,23 @@ pub fn byte_at(bytes: &[u8], i: usize) -> u8
     bytes.get(i).copied().unwrap_or(0)
 }
 
+// The record of this kind at `offset`, where the bytes of its body are all there.
+fn whole_record<K: Copy>(
+    bytes: &[u8],
+    offset: usize,
+    kind: K,
+    body: usize,
+) -> Result<Record<K>, BytesFault>
+    requires { offset < length bytes.now }
+    ensures { result ≡ cond (nat_lt (length bytes.now - offset - 1) body) (Err (Unfinished offset)) (Ok (record { offset = offset; kind = kind; end = offset + 1 + body })) }
+{
+    if bytes.len() - offset - 1 < body {
+        return Err(BytesFault::Unfinished { offset });
+    }
+    let end = offset + 1 + body;
+    Ok(Record { offset, kind, end })
+}
+
 // The record at `offset`: a byte is there, its kind is known, its body is complete.
 pub fn record_at<K: FileKind>(bytes: &[u8], offset: usize) -> Result<Record<K>, BytesFault>
     ensures { by_code K.code result ≡ record_at bytes.now K.kinds offset }
@@ -78,12 +100,7 @@ pub fn record_at<K: FileKind>(bytes: &[u8], offset: usize) -> Result<Record<K>, 
     let Some(kind) = K::from_code(code) else {
         return Err(BytesFault::UnknownKind { offset });
     };
-    let body = kind.body();
-    if bytes.len() - offset - 1 < body {
-        return Err(BytesFault::Unfinished { offset });
-    }
-    let end = offset + 1 + body;
-    Ok(Record { offset, kind, end })
+    whole_record(bytes, offset, kind, kind.body())
 }
 
 // Nothing stands from `offset` on.

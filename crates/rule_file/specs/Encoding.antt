@@ -1,7 +1,7 @@
 -- A list of rules as bytes. Assumes nothing.
 use Rattle.std.specs.Prelude.{ℕ, cond, List, [], ◌∷◌, ◌++◌}
 use Rattle.std.specs.List.{flat_map}
-use Rattle.records.specs.Reading.{Kind}
+use Rattle.records.specs.declared.among.Kind.{Kind}
 use Rattle.rules.specs.declared.Rule.{Rule}
 
 -- the kind of a rule's record (21 hex)
