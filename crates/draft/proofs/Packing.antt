@@ -1,15 +1,12 @@
 -- A row put together setting by setting. Assumes nothing.
-use Rattle.std.proofs.Common.{◌≡◌, ℕ, zero, suc, ◌+◌, ◌*◌, ◌%◌, ◌^◌, ◌<◌, ◌≤◌, Bool, true, false, cond, List, ◌∷◌, fold, sym, refl, ap, ◌∙◌, one-mul, add-zero, add-one, zero-add, arith}
+use Rattle.std.proofs.Common.{◌≡◌, ℕ, zero, suc, ◌+◌, ◌^◌, ◌<◌, ◌≤◌, Bool, true, false, cond, List, ◌∷◌, fold, sym, refl, ap, ◌∙◌, one-mul, add-zero, add-one, zero-add, arith}
 use lib.Bits.{bit_or}
 use Rattle.std.specs.List.{filter, range_with_len}
 use Rattle.std.proofs.lemmas.Nat.{one_shl, or_comm, or_shifted}
 use Rattle.plant.specs.Bits.{pack}
 use Rattle.plant.specs.Meaning.{most_lines}
 use Rattle.plant.proofs.Bits.{pack_small}
-
--- the row with one setting more open
-abbrev pub with_open : ℕ → ℕ → ℕ
-with_open row a = bit_or row ((1 * 2 ^ a) % 2 ^ (2 ^ most_lines))
+use Rattle.draft.specs.Rows.{with_open}
 
 -- a setting above those that are open
 with_open_above : (row a : ℕ) → row < 2 ^ a → a < 2 ^ most_lines → with_open row a ≡ 2 ^ a + row

@@ -1,10 +1,14 @@
 -- The rows of a draft, as a list that computes. Assumes nothing.
-use Rattle.std.specs.Prelude.{ℕ, ◌-◌, ◌*◌, Bool, List, map, slice_index}
+use Rattle.std.specs.Prelude.{ℕ, ◌-◌, ◌*◌, ◌%◌, ◌^◌, Bool, List, bit_or, map, slice_index}
 use Rattle.std.specs.List.{range_with_len}
 use Rattle.plant.specs.Bits.{bit, pack}
-use Rattle.plant.specs.Meaning.{Meaning, states, settings}
+use Rattle.plant.specs.Meaning.{Meaning, most_lines, states, settings}
 use Rattle.sweep.specs.Greatest.{held_in, lasting_states}
 use Rattle.plant.specs.Staying.{stays}
+
+-- the row with one setting more open: its bit is raised, within the width of a row
+abbrev pub with_open : ℕ → ℕ → ℕ
+with_open row a = bit_or row ((1 * 2 ^ a) % 2 ^ (2 ^ most_lines))
 
 -- row s: bit a is 1 where setting a is safe in s and leads only to states whose flag is up
 abbrev pub row_from : Meaning → List Bool → ℕ → ℕ

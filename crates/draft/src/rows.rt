@@ -1,20 +1,29 @@
 // The rows of a draft: which settings are open in each state.
 ghost use Rattle.std.specs.Prelude.{◌≡◌, ◌<◌, length, MatchOption};
-ghost use Rattle.plant.specs.Meaning.{states};
-ghost use Rattle.sweep.specs.Greatest.{Greatest};
-ghost use Rattle.draft.specs.Rows.{row_from, rows_from, rows_of};
+ghost use Rattle.std.specs.List.{filter, fold, range_with_len};
+ghost use Rattle.plant.specs.Meaning.{states, settings};
+ghost use Rattle.plant.specs.Staying.{stays};
+ghost use Rattle.sweep.specs.Greatest.{Greatest, held_in};
+ghost use Rattle.draft.specs.Rows.{row_from, rows_from, rows_of, with_open};
 ghost use Rattle.draft.specs.Starts.{Lost, AllOpen};
 
 use plant::{MAX_STATES, Plant, Row};
 use sweep::{FlaggedPlant, lasting_states};
 
-// The settings of `state` that are safe and lead only to states whose flag is up.
-fn open_row<P: Plant>(flagged: &FlaggedPlant<'_, P>, state: u32) -> Row
-    ensures { result ≡ row_from (P.meaning flagged.now.plant.now) flagged.now.held.now state }
+// The settings of `state` that are safe and lead only to states whose flag is up, opened one by one.
+fn gathered<P: Plant>(flagged: &FlaggedPlant<'_, P>, state: u32) -> Row
+    ensures { result ≡ fold with_open 0 (filter (stays (P.meaning flagged.now.plant.now) (held_in flagged.now.held.now) state) (range_with_len 0 (settings (P.meaning flagged.now.plant.now)))) }
 {
     (0..flagged.plant.settings())
         .filter(|a| flagged.pair_stays(state, *a))
         .fold(0, |row, a| row | 1 << a)
+}
+
+// The same, as a row.
+fn open_row<P: Plant>(flagged: &FlaggedPlant<'_, P>, state: u32) -> Row
+    ensures { result ≡ row_from (P.meaning flagged.now.plant.now) flagged.now.held.now state }
+{
+    gathered(flagged, state)
 }
 
 // The row of a state, given the flags of the states that last. The plant is asked only where the flag is up:

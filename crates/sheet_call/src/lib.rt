@@ -81,9 +81,9 @@ fn unmade(fault: SheetFault) -> Sheet
     }
 }
 
-// Reads the plan, drafts it into the first rows and the first places for rules, and writes the sheet, or why there is none.
-// By a rule of the project text, rows and rules are lent, so that only the plan takes memory.
-pub fn make_sheet(
+// Makes the sheet in memory of the right lengths, and none in other memory.
+// A function apart: its proof file says what follows in words, and `make_sheet` needs none.
+fn sheet_in(
     heap: Global,
     bytes: &[u8],
     text: &mut [u8],
@@ -114,4 +114,20 @@ pub fn make_sheet(
             rules: Err(fault),
         },
     }
+}
+
+// Reads the plan, drafts it into the first rows and the first places for rules, and writes the sheet, or why there is none.
+// By a rule of the project text, rows and rules are lent, so that only the plan takes memory.
+pub fn make_sheet(
+    heap: Global,
+    bytes: &[u8],
+    text: &mut [u8],
+    rows: &mut [Row],
+    rules: &mut [Rule],
+) -> Sheet
+    ensures outcome { SheetCall bytes.now (lent text.old rows.old rules.old) (lent text.new rows.new rules.new) result }
+    ensures within { result.length ≤ length text.new }
+    ensures counted { IfOk result.rules (λ n. n ≤ length rules.new) }
+{
+    sheet_in(heap, bytes, text, rows, rules)
 }

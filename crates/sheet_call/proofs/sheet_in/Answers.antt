@@ -1,6 +1,6 @@
 use Rattle.std.proofs.Common.{inr}
 use Rattle.sheet_call.proofs.Making.{lines_computed, refusal_computed, lines_within, wrote_within, rows_refused, places_refused, room_right}
-use Rattle.sheet_call.proofs.make_sheet.Goals as goal
+use Rattle.sheet_call.proofs.sheet_in.Goals as goal
 
 pub returns-in_default-as_mut_array-clause-outcome : goal.returns-in_default-as_mut_array-clause-outcome
 returns-in_default-as_mut_array-clause-outcome c =
